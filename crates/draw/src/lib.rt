@@ -8,3 +8,4 @@ pub use color::ColorStop;
 pub use color::StopBits;
 pub use tags::DrawTag;
 pub use tags::PathTag;
+pub use words::channel_byte;

@@ -7,7 +7,7 @@ use crate::color::ColorStop;
 use crate::color::StopBits;
 
 // A number from 0 to 1 as a byte: times 255, a half rounded away from zero.
-fn channel_byte(x: f32) -> u8
+pub fn channel_byte(x: f32) -> u8
     ensures { λ r. ⌜ r ≡ channel x ⌝ }
 {
     std::num::saturating_f32_to_u8((x * 255.0).round())

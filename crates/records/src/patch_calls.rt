@@ -1,0 +1,39 @@
+ghost use mathlib.Core.Path.{_≡_};
+ghost use Rattle.records.specs.Numbers.{extendOf, extendNumber};
+ghost use Rattle.records.specs.Finite.{points-finite};
+use crate::patch::DrawLinearGradient;
+use crate::patch::Extend;
+
+impl Extend {
+    pub fn from_number(n: u32) -> Option<Extend>
+        ensures { λ r. ⌜ r ≡ extendOf n ⌝ }
+    {
+        if n == 0 {
+            Some(Extend::Pad)
+        } else if n == 1 {
+            Some(Extend::Repeat)
+        } else if n == 2 {
+            Some(Extend::Reflect)
+        } else {
+            None
+        }
+    }
+
+    pub fn number(self) -> u32
+        ensures { λ r. ⌜ r ≡ extendNumber self ⌝ }
+    {
+        match self {
+            Extend::Pad => 0,
+            Extend::Repeat => 1,
+            Extend::Reflect => 2,
+        }
+    }
+}
+
+impl DrawLinearGradient {
+    pub fn is_finite(&self) -> bool
+        ensures { λ r. ⌜ r ≡ points-finite (now (self .entry)) ⌝ }
+    {
+        self.p0[0].is_finite() && self.p0[1].is_finite() && self.p1[0].is_finite() && self.p1[1].is_finite()
+    }
+}
