@@ -4,7 +4,8 @@ use mathlib.Core.Bool.{Bool}
 use mathlib.Core.List.{List, []}
 use Prim.Native.Nat.{ℕ, _+_, min}
 use lib.Dec.{leb}
-use Rattle.std.specs.Of.Vec.{vec-items, vec-len}
+use lib.ListN.{length}
+use Rattle.std.specs.Of.Vec.{vec-items}
 use Rattle.bounded.specs.declared.bounded_vec.BoundedVec.{BoundedVec}
 
 module _ {T : Type 0} where
@@ -12,7 +13,7 @@ module _ {T : Type 0} where
   items l = vec-items (l .items)
 
   abbrev pub len : BoundedVec T → ℕ
-  len l = vec-len (l .items)
+  len l = length (vec-items (l .items))
 
   -- whether that many more fit
   abbrev pub room : BoundedVec T → ℕ → Bool
@@ -21,5 +22,4 @@ module _ {T : Type 0} where
   -- an empty list with room for n, at most a million
   pub record Fresh (l : BoundedVec T) (n : ℕ) : Type 0 where
     pub items : items l ≡ []
-    pub len : len l ≡ 0
     pub limit : l .limit ≡ min n 1000000

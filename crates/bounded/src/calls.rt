@@ -21,7 +21,6 @@ impl<T> BoundedVec<T> {
 
     pub fn len(&self) -> usize
         ensures value { λ r. ⌜ r ≡ lenOf (now (self .entry)) ⌝ }
-        ensures items { λ r. ⌜ r ≡ length (itemsOf (now (self .entry))) ⌝ }
         ensures most { λ r. ⌜ r ≤ 1000000 ⌝ }
     {
         self.items.len()

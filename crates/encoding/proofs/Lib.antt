@@ -1,0 +1,5 @@
+pub mod Patches
+pub mod Turning
+pub mod Runs
+pub mod Kept
+pub mod Sounds

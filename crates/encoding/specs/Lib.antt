@@ -1,0 +1,4 @@
+pub mod Shape
+pub mod Scene
+pub mod Answer
+pub mod Appended
