@@ -28,7 +28,8 @@ bitsOf s = record {
   r = toBits binary32 (s .color .r);
   g = toBits binary32 (s .color .g);
   b = toBits binary32 (s .color .b);
-  a = toBits binary32 (s .color .a) }
+  a = toBits binary32 (s .color .a);
+}
 
 abbrev pub stopOf : StopBits → ColorStop
 stopOf s = record {
@@ -37,4 +38,6 @@ stopOf s = record {
     r = ofBits binary32 (s .r);
     g = ofBits binary32 (s .g);
     b = ofBits binary32 (s .b);
-    a = ofBits binary32 (s .a) } }
+    a = ofBits binary32 (s .a);
+  };
+}

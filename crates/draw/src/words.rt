@@ -44,7 +44,15 @@ impl ColorStop {
             return self;
         }
         let c = self.color;
-        ColorStop { offset: self.offset, color: Color { r: c.r, g: c.g, b: c.b, a: c.a * alpha } }
+        ColorStop {
+            offset: self.offset,
+            color: Color {
+                r: c.r,
+                g: c.g,
+                b: c.b,
+                a: c.a * alpha,
+            },
+        }
     }
 
     // The stop bit by bit.

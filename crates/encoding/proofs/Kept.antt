@@ -8,14 +8,72 @@ use lib.ListN.{length, getD}
 use Rattle.std.specs.declared.option.Option.{Option}
 use Rattle.math.specs.declared.transform.Transform.{Transform}
 use Rattle.records.specs.Moved.{movedPatch, movedRun, past, SmallPatch, SmallOffsets, SmallRun}
+use Rattle.records.specs.declared.patch.Extend.{Extend}
 use Rattle.records.specs.declared.patch.Patch.{Patch}
+use Rattle.records.specs.declared.patch.Patch.the-variants.{Ramp, GlyphRun as Run, Image}
 use Rattle.records.specs.declared.glyph.GlyphRun.{GlyphRun}
 use Rattle.records.specs.declared.glyph.StreamOffsets.{StreamOffsets}
-use Rattle.encoding.specs.Shape.{Lies, Turns, Rises, start}
+use native.Mathlib.Omega.{arith}
+use Rattle.encoding.specs.Shape.{Lies, Turns, Rises, Under, start}
 use Rattle.encoding.specs.Scene.{Scene, Sound, ends}
-use Rattle.encoding.proofs.Patches.{lies-append, patches-small}
-use Rattle.encoding.proofs.Turning.{turns-append}
-use Rattle.encoding.proofs.Runs.{rises-append, ends-small, runs-small}
+use Rattle.encoding.proofs.Patches.{lies-append, lies-wider, lies-more, patches-small}
+use Rattle.encoding.proofs.Turning.{turns-append, turns-more}
+use Rattle.encoding.proofs.Runs.{under-self, rises-append, rises-wider, rises-more, ends-small, runs-small}
+
+module _ (s : Scene) (hs : Sound s) where
+  -- longer streams with the same resources
+  pub patched-longer : {w″ st″ : ℕ} → length (s .draw-data) ≤ w″ → length (s .stops) ≤ st″ → ∥ Lies w″ st″ 0 (s .patches) ∥₁
+  patched-longer h k = ∥∥₁-map (hs .patched) (lies-wider _ _ _ _ 0 (s .patches) h k)
+
+  pub recorded-longer : {a b c d e f : ℕ} → length (s .path-tags) ≤ a → length (s .path-data) ≤ b → length (s .draw-tags) ≤ c
+      → length (s .draw-data) ≤ d → length (s .transforms) ≤ e → length (s .styles) ≤ f
+      → ∥ Rises (record { «path_tags» = a; «path_data» = b; «draw_tags» = c; «draw_data» = d; transforms = e; styles = f }) (length (s .glyphs)) start (s .runs) ∥₁
+  recorded-longer a b c d e f =
+      let u : Under (ends s) (record { «path_tags» = _; «path_data» = _; «draw_tags» = _; «draw_data» = _; transforms = _; styles = _ })
+      = record { path-tags = a; path-data = b; draw-tags = c; draw-data = d; transforms = e; styles = f } in
+      ∥∥₁-map (hs .recorded) (rises-wider (ends s) _ (length (s .glyphs)) (length (s .glyphs)) start (s .runs) u (omega arith))
+
+  -- one patch more
+  patched-more : (w″ st″ : ℕ) {ps : List Patch} (p : Patch) → ps ≡ s .patches ++ p ∷ [] → length (s .draw-data) ≤ w″ → length (s .stops) ≤ st″
+      → Lies w″ st″ (length (s .draw-data)) (p ∷ []) → ∥ Lies w″ st″ 0 ps ∥₁
+  patched-more w″ st″ p e h k l = rw e (∥∥₁-map (hs .patched) (λ m. lies-more _ _ _ _ 0 (s .patches) p h k m l))
+
+  turned-more : (n : ℕ) {ps : List Patch} (p : Patch) → ps ≡ s .patches ++ p ∷ [] → Turns n (length (s .runs)) (p ∷ []) → ∥ Turns n 0 ps ∥₁
+  turned-more n p e t = rw e (∥∥₁-map (hs .turned) (λ m. turns-more _ _ 0 (s .patches) p m t))
+
+  pub patched-ramp : (w″ st″ o a b : ℕ) (x : Extend) {ps : List Patch} → o ≡ length (s .draw-data) → ps ≡ s .patches ++ Ramp o a b x ∷ []
+      → o + 1 ≤ w″ → length (s .stops) ≤ st″ → a + 2 ≤ b → b ≤ a + 16 → b ≤ st″ → ∥ Lies w″ st″ 0 ps ∥₁
+  unfolding Lies
+  patched-ramp w″ st″ o a b x q e h k u v w = patched-more w″ st″ (Ramp o a b x) e (omega arith) k (omega arith, u, v, w, h)
+
+  pub turned-ramp : (o a b : ℕ) (x : Extend) {ps : List Patch} → ps ≡ s .patches ++ Ramp o a b x ∷ [] → ∥ Turns (length (s .runs)) 0 ps ∥₁
+  unfolding Turns
+  turned-ramp o a b x e = turned-more _ (Ramp o a b x) e refl
+
+  pub patched-image : (w″ st″ o id w h : ℕ) {ps : List Patch} → o ≡ length (s .draw-data) → ps ≡ s .patches ++ Image o id w h ∷ []
+      → o + 2 ≤ w″ → length (s .stops) ≤ st″ → w ≤ 65535 → h ≤ 65535 → 1 ≤ w → 1 ≤ h → ∥ Lies w″ st″ 0 ps ∥₁
+  unfolding Lies
+  patched-image w″ st″ o id w h q e l k a b c d = patched-more w″ st″ (Image o id w h) e (omega arith) k (omega arith, a, b, c, d, l)
+
+  pub turned-image : (o id w h : ℕ) {ps : List Patch} → ps ≡ s .patches ++ Image o id w h ∷ [] → ∥ Turns (length (s .runs)) 0 ps ∥₁
+  unfolding Turns
+  turned-image o id w h e = turned-more _ (Image o id w h) e refl
+
+  pub patched-run : (i : ℕ) {ps : List Patch} → ps ≡ s .patches ++ Run i ∷ [] → ∥ Lies (length (s .draw-data)) (length (s .stops)) 0 ps ∥₁
+  unfolding Lies
+  patched-run i e = patched-more _ _ (Run i) e (omega arith) (omega arith) (omega arith)
+
+  pub turned-run : (i n : ℕ) {ps : List Patch} → i ≡ length (s .runs) → n ≡ length (s .runs) + 1 → ps ≡ s .patches ++ Run i ∷ [] → ∥ Turns n 0 ps ∥₁
+  unfolding Turns
+  turned-run i n q w e = turned-more n (Run i) e (q, omega arith)
+
+  pub recorded-run : (n : ℕ) {rs : List GlyphRun} (r : GlyphRun) → rs ≡ s .runs ++ r ∷ [] → r .«stream_offsets» ≡ ends s
+      → length (s .glyphs) ≤ n → r .«glyphs_start» ≤ r .«glyphs_end» → r .«glyphs_end» ≤ n → ∥ Rises (ends s) n start rs ∥₁
+  unfolding Rises
+  recorded-run n r e q h k l =
+      let u : Under (ends s) (r .«stream_offsets») = rw q (under-self (ends s)) in
+      let v : Under (r .«stream_offsets») (ends s) = rw q (under-self (ends s)) in
+      rw e (∥∥₁-map (hs .recorded) (λ m. rises-more (ends s) _ _ start (s .runs) r h m (u, k, l, v)))
 
 module _ (s o : Scene) (hs : Sound s) (ho : Sound o) where
   pub patched-appended : (r : ℕ) {w st : ℕ} {ps : List Patch} {w″ s″ : ℕ}

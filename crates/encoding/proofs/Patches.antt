@@ -24,13 +24,22 @@ lies-moved : (w s r w′ s′ f : ℕ) (ps : List Patch) → Lies w′ s′ f ps
     → Lies (w + w′) (s + s′) (f + w) (map (movedPatch w s r) ps)
 unfolding Lies
 lies-moved w s r w′ s′ f [] l = omega arith
-lies-moved w s r w′ s′ f (Ramp o a b e ∷ ps) l =
-    (omega arith, omega arith, omega arith, omega arith,
-    lies-lower (w + w′) (s + s′) (o + 1 + w) (o + w + 1) (map (movedPatch w s r) ps) (omega arith) (lies-moved w s r w′ s′ (o + 1) ps (l .4)))
+lies-moved w s r w′ s′ f (Ramp o a b e ∷ ps) l = (
+  omega arith,
+  omega arith,
+  omega arith,
+  omega arith,
+  lies-lower (w + w′) (s + s′) (o + 1 + w) (o + w + 1) (map (movedPatch w s r) ps) (omega arith) (lies-moved w s r w′ s′ (o + 1) ps (l .4)),
+)
 lies-moved w s r w′ s′ f (Run i ∷ ps) l = lies-moved w s r w′ s′ f ps l
-lies-moved w s r w′ s′ f (Image o id x y ∷ ps) l =
-    (omega arith, l .1, l .2, l .3, l .4,
-    lies-lower (w + w′) (s + s′) (o + 2 + w) (o + w + 2) (map (movedPatch w s r) ps) (omega arith) (lies-moved w s r w′ s′ (o + 2) ps (l .5)))
+lies-moved w s r w′ s′ f (Image o id x y ∷ ps) l = (
+  omega arith,
+  l .1,
+  l .2,
+  l .3,
+  l .4,
+  lies-lower (w + w′) (s + s′) (o + 2 + w) (o + w + 2) (map (movedPatch w s r) ps) (omega arith) (lies-moved w s r w′ s′ (o + 2) ps (l .5)),
+)
 
 pub lies-append : (w s r w′ s′ f : ℕ) (ps qs : List Patch) → Lies w s f ps → Lies w′ s′ 0 qs
     → Lies (w + w′) (s + s′) f (ps ++ map (movedPatch w s r) qs)
@@ -96,4 +105,4 @@ small-at w s n f j (Image o id x y ∷ ps) hw hs hn l t (suc k) d h = small-at w
 pub patches-small : (s : Scene) → Sound s → (k : ℕ) (d : Patch) → k < length (s .patches) → SmallPatch (getD (s .patches) k d)
 patches-small s h k d l =
     ∥∥₁-elim (h .patched) (small-prop _) (λ p. ∥∥₁-elim (h .turned) (small-prop _) (λ t.
-      small-at _ _ _ 0 0 (s .patches) (h .draw-data) (h .stops) (h .runs) p t k d l))
+    small-at _ _ _ 0 0 (s .patches) (h .draw-data) (h .stops) (h .runs) p t k d l))

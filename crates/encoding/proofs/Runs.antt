@@ -16,23 +16,43 @@ use Rattle.encoding.specs.Scene.{Scene, Sound, ends}
 
 pub under-self : (a : StreamOffsets) → Under a a
 under-self a = record {
-    path-tags = omega arith; path-data = omega arith; draw-tags = omega arith;
-    draw-data = omega arith; transforms = omega arith; styles = omega arith }
+  path-tags = omega arith;
+  path-data = omega arith;
+  draw-tags = omega arith;
+  draw-data = omega arith;
+  transforms = omega arith;
+  styles = omega arith;
+}
 
 pub under-trans : (a b c : StreamOffsets) → Under a b → Under b c → Under a c
 under-trans a b c h k = record {
-    path-tags = omega arith; path-data = omega arith; draw-tags = omega arith;
-    draw-data = omega arith; transforms = omega arith; styles = omega arith }
+  path-tags = omega arith;
+  path-data = omega arith;
+  draw-tags = omega arith;
+  draw-data = omega arith;
+  transforms = omega arith;
+  styles = omega arith;
+}
 
 under-past : (e a b : StreamOffsets) → Under a b → Under (past e a) (past e b)
 under-past e a b h = record {
-    path-tags = omega arith; path-data = omega arith; draw-tags = omega arith;
-    draw-data = omega arith; transforms = omega arith; styles = omega arith }
+  path-tags = omega arith;
+  path-data = omega arith;
+  draw-tags = omega arith;
+  draw-data = omega arith;
+  transforms = omega arith;
+  styles = omega arith;
+}
 
 past-under : (e a b : StreamOffsets) → Under a e → Under a (past e b)
 past-under e a b h = record {
-    path-tags = omega arith; path-data = omega arith; draw-tags = omega arith;
-    draw-data = omega arith; transforms = omega arith; styles = omega arith }
+  path-tags = omega arith;
+  path-data = omega arith;
+  draw-tags = omega arith;
+  draw-data = omega arith;
+  transforms = omega arith;
+  styles = omega arith;
+}
 
 rises-lower : (e : StreamOffsets) (n : ℕ) (f g : StreamOffsets) (rs : List GlyphRun) → Under g f → Rises e n f rs → Rises e n g rs
 unfolding Rises
@@ -72,32 +92,51 @@ rises-from e n f (r ∷ rs) l = under-trans f (r .«stream_offsets») e (l .0) (
 
 small-under : (a b : StreamOffsets) → Under a b → SmallOffsets b → SmallOffsets a
 small-under a b h k = record {
-    path-tags = omega arith; path-data = omega arith; draw-tags = omega arith;
-    draw-data = omega arith; transforms = omega arith; styles = omega arith }
+  path-tags = omega arith;
+  path-data = omega arith;
+  draw-tags = omega arith;
+  draw-data = omega arith;
+  transforms = omega arith;
+  styles = omega arith;
+}
 
 rises-small : (e : StreamOffsets) (n : ℕ) (f : StreamOffsets) (rs : List GlyphRun) → SmallOffsets e → n ≤ 1000000 → Rises e n f rs
     → (k : ℕ) (d : GlyphRun) → k < length rs → SmallRun (getD rs k d)
 unfolding Rises
 rises-small e n f [] he hn l k d h = absurd (omega arith)
 rises-small e n f (r ∷ rs) he hn l zero d h = record {
-    start = omega arith; end = omega arith; offsets = small-under (r .«stream_offsets») e (rises-from e n (r .«stream_offsets») rs (l .3)) he }
+  start = omega arith;
+  end = omega arith;
+  offsets = small-under (r .«stream_offsets») e (rises-from e n (r .«stream_offsets») rs (l .3)) he;
+}
 rises-small e n f (r ∷ rs) he hn l (suc k) d h = rises-small e n (r .«stream_offsets») rs he hn (l .3) k d (omega arith)
 
 small-offsets-prop : (a : StreamOffsets) → IsProp (SmallOffsets a)
 small-offsets-prop a p q = λ i. record {
-    path-tags = le-prop (p .path-tags) (q .path-tags) i; path-data = le-prop (p .path-data) (q .path-data) i;
-    draw-tags = le-prop (p .draw-tags) (q .draw-tags) i; draw-data = le-prop (p .draw-data) (q .draw-data) i;
-    transforms = le-prop (p .transforms) (q .transforms) i; styles = le-prop (p .styles) (q .styles) i }
+  path-tags = le-prop (p .path-tags) (q .path-tags) i;
+  path-data = le-prop (p .path-data) (q .path-data) i;
+  draw-tags = le-prop (p .draw-tags) (q .draw-tags) i;
+  draw-data = le-prop (p .draw-data) (q .draw-data) i;
+  transforms = le-prop (p .transforms) (q .transforms) i;
+  styles = le-prop (p .styles) (q .styles) i;
+}
 
 small-prop : (r : GlyphRun) → IsProp (SmallRun r)
 small-prop r p q = λ i. record {
-    start = le-prop (p .start) (q .start) i; end = le-prop (p .end) (q .end) i;
-    offsets = small-offsets-prop (r .«stream_offsets») (p .offsets) (q .offsets) i }
+  start = le-prop (p .start) (q .start) i;
+  end = le-prop (p .end) (q .end) i;
+  offsets = small-offsets-prop (r .«stream_offsets») (p .offsets) (q .offsets) i;
+}
 
 pub ends-small : (s : Scene) → Sound s → SmallOffsets (ends s)
 ends-small s h = record {
-    path-tags = h .path-tags; path-data = h .path-data; draw-tags = h .draw-tags;
-    draw-data = h .draw-data; transforms = h .transforms; styles = h .styles }
+  path-tags = h .path-tags;
+  path-data = h .path-data;
+  draw-tags = h .draw-tags;
+  draw-data = h .draw-data;
+  transforms = h .transforms;
+  styles = h .styles;
+}
 
 -- the numbers of a scene's runs are small
 pub runs-small : (s : Scene) → Sound s → (k : ℕ) (d : GlyphRun) → k < length (s .runs) → SmallRun (getD (s .runs) k d)

@@ -30,7 +30,8 @@ appended s o t = record {
   segments = s .segments + o .segments;
   clips = s .clips + o .clips;
   open-clips = s .open-clips + o .open-clips;
-  flags = o .flags }
+  flags = o .flags;
+}
 
 -- every list has space for the other's
 abbrev pub append-spacious : Scene → Room → Scene → Bool

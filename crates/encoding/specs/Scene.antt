@@ -49,13 +49,27 @@ meaning s = record {
   segments = s .counts .«n_path_segments»;
   clips = s .counts .«n_clips»;
   open-clips = s .counts .«n_open_clips»;
-  flags = s .flags }
+  flags = s .flags;
+}
 
 abbrev pub empty : Scene
 empty = record {
-  path-tags = []; path-data = []; draw-tags = []; draw-data = []; transforms = []; styles = [];
-  patches = []; stops = []; glyphs = []; runs = [];
-  paths = 0; segments = 0; clips = 0; open-clips = 0; flags = 0 }
+  path-tags = [];
+  path-data = [];
+  draw-tags = [];
+  draw-data = [];
+  transforms = [];
+  styles = [];
+  patches = [];
+  stops = [];
+  glyphs = [];
+  runs = [];
+  paths = 0;
+  segments = 0;
+  clips = 0;
+  open-clips = 0;
+  flags = 0;
+}
 
 -- the lengths of a scene's six streams
 abbrev pub ends : Scene → StreamOffsets
@@ -65,7 +79,8 @@ ends s = record {
   «draw_tags» = length (s .draw-tags);
   «draw_data» = length (s .draw-data);
   transforms = length (s .transforms);
-  styles = length (s .styles) }
+  styles = length (s .styles);
+}
 
 -- what every scene keeps
 pub record Sound (s : Scene) : Type 0 where
@@ -111,7 +126,8 @@ room s = record {
   patches = s .resources .patches .limit;
   stops = s .resources .«color_stops» .limit;
   glyphs = s .resources .glyphs .limit;
-  runs = s .resources .«glyph_runs» .limit }
+  runs = s .resources .«glyph_runs» .limit;
+}
 
 -- what the maker handed over, and at most a million entries
 abbrev pub limited : Capacities → Room
@@ -125,7 +141,8 @@ limited w = record {
   patches = min (w .patches) 1000000;
   stops = min (w .«color_stops») 1000000;
   glyphs = min (w .glyphs) 1000000;
-  runs = min (w .«glyph_runs») 1000000 }
+  runs = min (w .«glyph_runs») 1000000;
+}
 
 -- the four counts as one record
 abbrev pub countsOf : Scene → Counts

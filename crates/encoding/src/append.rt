@@ -5,6 +5,7 @@ ghost use Rattle.encoding.specs.Answer.{Answers};
 ghost use Rattle.encoding.specs.Appended.{appended, append-refusal, append-spacious, counts-few, Spacious, Few};
 use crate::encoding::Encoding;
 use bounded::append_mapped;
+use math::Transform;
 use records::Counts;
 use records::PatchShift;
 use records::PatchShiftMapping;
@@ -15,7 +16,6 @@ use records::StreamOffsets;
 use records::TransformShift;
 use records::TransformShiftMapping;
 use records::is_given_finite;
-use math::Transform;
 
 impl Encoding {
     // A snapshot of the current stream offsets.
@@ -42,10 +42,16 @@ impl Encoding {
             && self.draw_data.has_room(other.draw_data.len())
             && self.transforms.has_room(other.transforms.len())
             && self.styles.has_room(other.styles.len())
-            && self.resources.patches.has_room(other.resources.patches.len())
-            && self.resources.color_stops.has_room(other.resources.color_stops.len())
+            && self.resources
+                .patches
+                .has_room(other.resources.patches.len())
+            && self.resources
+                .color_stops
+                .has_room(other.resources.color_stops.len())
             && self.resources.glyphs.has_room(other.resources.glyphs.len())
-            && self.resources.glyph_runs.has_room(other.resources.glyph_runs.len())
+            && self.resources
+                .glyph_runs
+                .has_room(other.resources.glyph_runs.len())
     }
 
     // Whether each count stays within 1,000,000 with `more` added.
@@ -78,17 +84,35 @@ impl Encoding {
             stops: self.resources.color_stops.len(),
             runs: self.resources.glyph_runs.len(),
         };
-        let run_shift = RunShift { by: transform, base, glyphs: self.resources.glyphs.len() };
+        let run_shift = RunShift {
+            by: transform,
+            base,
+            glyphs: self.resources.glyphs.len(),
+        };
         self.path_tags.append(&other.path_tags);
         self.path_data.append(&other.path_data);
         self.draw_tags.append(&other.draw_tags);
         self.draw_data.append(&other.draw_data);
-        append_mapped(&mut self.transforms, &other.transforms, &TransformShift { by: transform });
+        append_mapped(
+            &mut self.transforms,
+            &other.transforms,
+            &TransformShift { by: transform },
+        );
         self.styles.append(&other.styles);
-        append_mapped(&mut self.resources.patches, &other.resources.patches, &patch_shift);
-        self.resources.color_stops.append(&other.resources.color_stops);
+        append_mapped(
+            &mut self.resources.patches,
+            &other.resources.patches,
+            &patch_shift,
+        );
+        self.resources
+            .color_stops
+            .append(&other.resources.color_stops);
         self.resources.glyphs.append(&other.resources.glyphs);
-        append_mapped(&mut self.resources.glyph_runs, &other.resources.glyph_runs, &run_shift);
+        append_mapped(
+            &mut self.resources.glyph_runs,
+            &other.resources.glyph_runs,
+            &run_shift,
+        );
         self.counts.n_paths += other.counts.n_paths;
         self.counts.n_path_segments += other.counts.n_path_segments;
         self.counts.n_clips += other.counts.n_clips;

@@ -1,6 +1,12 @@
 // A scene: six streams, the resources that are bound late, counts and flags, and the calls that build it.
 mod append;
 mod encoding;
+mod glyph_run;
+mod gradient;
+mod image;
+mod lay;
+mod make;
+mod new_streams;
 mod reads;
 
 pub use bounded::BoundedVec;

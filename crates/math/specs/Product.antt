@@ -16,13 +16,14 @@ dot a x b y = add binary32 (mul binary32 a x) (mul binary32 b y)
 abbrev pub times : Transform → Transform → Transform
 times s o = record {
   matrix =
-    dot (at (s .matrix) 0) (at (o .matrix) 0) (at (s .matrix) 2) (at (o .matrix) 1) ∷
-    dot (at (s .matrix) 1) (at (o .matrix) 0) (at (s .matrix) 3) (at (o .matrix) 1) ∷
-    dot (at (s .matrix) 0) (at (o .matrix) 2) (at (s .matrix) 2) (at (o .matrix) 3) ∷
-    dot (at (s .matrix) 1) (at (o .matrix) 2) (at (s .matrix) 3) (at (o .matrix) 3) ∷ [];
+      dot (at (s .matrix) 0) (at (o .matrix) 0) (at (s .matrix) 2) (at (o .matrix) 1) ∷
+      dot (at (s .matrix) 1) (at (o .matrix) 0) (at (s .matrix) 3) (at (o .matrix) 1) ∷
+      dot (at (s .matrix) 0) (at (o .matrix) 2) (at (s .matrix) 2) (at (o .matrix) 3) ∷
+      dot (at (s .matrix) 1) (at (o .matrix) 2) (at (s .matrix) 3) (at (o .matrix) 3) ∷ [];
   translation =
-    add binary32 (dot (at (s .matrix) 0) (at (o .translation) 0) (at (s .matrix) 2) (at (o .translation) 1)) (at (s .translation) 0) ∷
-    add binary32 (dot (at (s .matrix) 1) (at (o .translation) 0) (at (s .matrix) 3) (at (o .translation) 1)) (at (s .translation) 1) ∷ [] }
+      add binary32 (dot (at (s .matrix) 0) (at (o .translation) 0) (at (s .matrix) 2) (at (o .translation) 1)) (at (s .translation) 0) ∷
+      add binary32 (dot (at (s .matrix) 1) (at (o .translation) 0) (at (s .matrix) 3) (at (o .translation) 1)) (at (s .translation) 1) ∷ [];
+}
 
 abbrev pub zero : Float
 zero = ofBits binary32 0

@@ -8,7 +8,10 @@ impl Transform {
     pub fn identity() -> Transform
         ensures { λ r. ⌜ r ≡ identity ⌝ }
     {
-        Transform { matrix: [1.0, 0.0, 0.0, 1.0], translation: [0.0, 0.0] }
+        Transform {
+            matrix: [1.0, 0.0, 0.0, 1.0],
+            translation: [0.0, 0.0],
+        }
     }
 
     // `self` after `other`: what the Rust writes `self * other`.

@@ -22,7 +22,8 @@ past base a = record {
   «draw_tags» = a .«draw_tags» + base .«draw_tags»;
   «draw_data» = a .«draw_data» + base .«draw_data»;
   transforms = a .transforms + base .transforms;
-  styles = a .styles + base .styles }
+  styles = a .styles + base .styles;
+}
 
 -- what the given transform, if any, makes of one: a product from the left
 abbrev pub under : Option Transform → Transform → Transform
@@ -36,17 +37,21 @@ movedPatch words stops runs (Image o id w h) = Image (o + words) id w h
 
 abbrev pub movedAttributes : Option Transform → RunAttributes → RunAttributes
 movedAttributes t a = record {
-  font = a .font; style = a .style; «font_size» = a .«font_size»;
+  font = a .font;
+  style = a .style;
+  «font_size» = a .«font_size»;
   transform = under t (a .transform);
   «glyph_transform» = a .«glyph_transform»;
-  «brush_transform» = a .«brush_transform» }
+  «brush_transform» = a .«brush_transform»;
+}
 
 abbrev pub movedRun : Option Transform → StreamOffsets → ℕ → GlyphRun → GlyphRun
 movedRun t base glyphs r = record {
   attributes = movedAttributes t (r .attributes);
   «glyphs_start» = r .«glyphs_start» + glyphs;
   «glyphs_end» = r .«glyphs_end» + glyphs;
-  «stream_offsets» = past base (r .«stream_offsets») }
+  «stream_offsets» = past base (r .«stream_offsets»);
+}
 
 -- a stop as a gradient stores it
 abbrev pub storedStop : Float → ColorStop → StopBits

@@ -2,8 +2,6 @@
 use Prim.Native.Nat.{ℕ}
 use mathlib.Core.Bool.{cond}
 use lib.Dec.{eqb}
-use Rattle.std.specs.declared.option.Option.{Option}
-use Rattle.std.specs.declared.option.Option.the-variants.{Some, None}
 use Rattle.records.specs.declared.refusal.Refusal.{Refusal}
 use Rattle.records.specs.declared.refusal.Refusal.the-variants.{NotFinite, OutOfRange, Full, TooMany}
 use Rattle.records.specs.declared.patch.Extend.{Extend}
@@ -21,5 +19,6 @@ extendNumber Pad = 0
 extendNumber Repeat = 1
 extendNumber Reflect = 2
 
-abbrev pub extendOf : ℕ → Option Extend
-extendOf n = cond (eqb n 0) (Some Pad) (cond (eqb n 1) (Some Repeat) (cond (eqb n 2) (Some Reflect) None))
+-- of a number up to 2
+abbrev pub extendOf : ℕ → Extend
+extendOf n = cond (eqb n 0) Pad (cond (eqb n 1) Repeat Reflect)

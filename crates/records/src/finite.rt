@@ -1,9 +1,9 @@
 ghost use mathlib.Core.Path.{_≡_};
 ghost use Rattle.math.specs.Finite.{allFinite};
 ghost use Rattle.records.specs.Finite.{glyph-finite, stop-finite, given-finite, attributes-finite};
-use crate::question::Test;
 use crate::glyph::Glyph;
 use crate::glyph::RunAttributes;
+use crate::question::Test;
 use draw::ColorStop;
 use math::Transform;
 

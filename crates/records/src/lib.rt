@@ -1,11 +1,11 @@
 // The records of a scene, and what may be asked of each before it goes into one.
-mod question;
 mod finite;
 mod glyph;
 mod image;
 mod image_words;
 mod patch;
 mod patch_calls;
+mod question;
 mod refusal;
 mod refusal_number;
 mod scene;
@@ -13,8 +13,6 @@ mod shifts;
 mod style;
 mod unit;
 
-pub use question::Test;
-pub use question::every;
 pub use finite::GlyphIsFinite;
 pub use finite::IsFinite;
 pub use finite::StopIsFinite;
@@ -29,6 +27,8 @@ pub use image::ImageSampler;
 pub use patch::DrawLinearGradient;
 pub use patch::Extend;
 pub use patch::Patch;
+pub use question::Test;
+pub use question::every;
 pub use refusal::Refusal;
 pub use scene::Capacities;
 pub use scene::Counts;

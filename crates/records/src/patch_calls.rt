@@ -1,21 +1,20 @@
 ghost use mathlib.Core.Path.{_≡_};
+ghost use Prim.Native.Nat.{_≤_};
 ghost use Rattle.records.specs.Numbers.{extendOf, extendNumber};
 ghost use Rattle.records.specs.Finite.{points-finite};
 use crate::patch::DrawLinearGradient;
 use crate::patch::Extend;
 
 impl Extend {
-    pub fn from_number(n: u32) -> Option<Extend>
+    pub fn from_number(n: u32) -> Extend
+        requires { ⌜ n ≤ 2 ⌝ }
         ensures { λ r. ⌜ r ≡ extendOf n ⌝ }
     {
-        if n == 0 {
-            Some(Extend::Pad)
-        } else if n == 1 {
-            Some(Extend::Repeat)
-        } else if n == 2 {
-            Some(Extend::Reflect)
-        } else {
-            None
+        match n {
+            0 => Extend::Pad,
+            1 => Extend::Repeat,
+            2 => Extend::Reflect,
+            _ => unreachable(),
         }
     }
 
@@ -34,6 +33,9 @@ impl DrawLinearGradient {
     pub fn is_finite(&self) -> bool
         ensures { λ r. ⌜ r ≡ points-finite (now (self .entry)) ⌝ }
     {
-        self.p0[0].is_finite() && self.p0[1].is_finite() && self.p1[0].is_finite() && self.p1[1].is_finite()
+        self.p0[0].is_finite()
+            && self.p0[1].is_finite()
+            && self.p1[0].is_finite()
+            && self.p1[1].is_finite()
     }
 }

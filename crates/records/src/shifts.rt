@@ -82,14 +82,26 @@ pub impl Mapping<Patch, Patch> for PatchShift as PatchShiftMapping {
 
     fn map(&self, x: &Patch) -> Patch {
         match *x {
-            Patch::Ramp { draw_data_offset, stops_start, stops_end, extend } => Patch::Ramp {
+            Patch::Ramp {
+                draw_data_offset,
+                stops_start,
+                stops_end,
+                extend,
+            } => Patch::Ramp {
                 draw_data_offset: draw_data_offset + self.words,
                 stops_start: stops_start + self.stops,
                 stops_end: stops_end + self.stops,
                 extend,
             },
-            Patch::GlyphRun { index } => Patch::GlyphRun { index: index + self.runs },
-            Patch::Image { draw_data_offset, id, width, height } => Patch::Image {
+            Patch::GlyphRun { index } => Patch::GlyphRun {
+                index: index + self.runs,
+            },
+            Patch::Image {
+                draw_data_offset,
+                id,
+                width,
+                height,
+            } => Patch::Image {
                 draw_data_offset: draw_data_offset + self.words,
                 id,
                 width,

@@ -1,8 +1,9 @@
+ghost use mathlib.Core.Bool.{true};
 ghost use mathlib.Core.Path.{_≡_};
-ghost use Rattle.records.specs.Unit.{in-unit, stop-in-unit, image-in-range, sampler-in-range, side-in-range};
-use crate::question::Test;
+ghost use Rattle.records.specs.Unit.{in-unit, stop-in-unit, image-in-range, sampler-in-range, side-in-range, Sides};
 use crate::image::Image;
 use crate::image::ImageSampler;
+use crate::question::Test;
 use draw::ColorStop;
 
 // Whether a number is from 0 to 1, by value: -0 is.
@@ -35,7 +36,8 @@ fn is_side(n: u32) -> bool
 
 impl Image {
     pub fn is_in_range(&self) -> bool
-        ensures { λ r. ⌜ r ≡ image-in-range (now (self .entry)) ⌝ }
+        ensures value { λ r. ⌜ r ≡ image-in-range (now (self .entry)) ⌝ }
+        ensures sides { λ r. ⌜ (r ≡ true → Sides (now (self .entry))) ⌝ }
     {
         is_side(self.width) && is_side(self.height) && self.format <= 1 && self.alpha_type <= 1
     }

@@ -7,4 +7,4 @@ use Rattle.bounded.proofs.mapping.extend_mapped.Given as given
 
 abbrev pub Inv-loop-x : given.InvT-loop-x
 Inv-loop-x g l = (items (l .to) ≡ items (l .entry .to) ++ map (g .M·Mapping .image (l .by)) (take (l .x-index) (l .from)))
-  × (len (l .to) ≡ len (l .entry .to) + l .x-index) × (l .to .limit ≡ l .entry .to .limit)
+    × (len (l .to) ≡ len (l .entry .to) + l .x-index) × (l .to .limit ≡ l .entry .to .limit)

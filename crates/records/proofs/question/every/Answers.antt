@@ -17,12 +17,12 @@ one-more p xs i x b r h e t inv =
 pub returns-then-not-test : need.returns-then-not-test
 returns-then-not-test g c =
     one-more (g .P·Test .passes) (c .args .xs .now) (c .loop-x .x-index) _ false _ (omega arith) (c .x-item .is)
-      (c .if-not-test .ensures tt) (c .loop-x .inv)
+    (c .if-not-test .ensures tt) (c .loop-x .inv)
 
 pub loop-x-again : need.loop-x-again
 loop-x-again g c =
     one-more (g .P·Test .passes) (c .args .xs .now) (c .loop-x .x-index) _ true _ (omega arith) (c .x-item .is)
-      (c .if-not-test .ensures tt) (c .loop-x .inv)
+    (c .if-not-test .ensures tt) (c .loop-x .inv)
 
 pub returns : need.returns
 returns g c = sym (at-drop-all (all (g .P·Test .passes)) (c .args .xs .now) (c .loop-x .x-index) (omega arith)) ∙ c .loop-x .inv
