@@ -1,6 +1,6 @@
 -- Colours, their words, and stops bit by bit.
 use Prim.Native.Nat.{ℕ, _+_, _*_}
-use mathlib.Core.Bool.{Bool, cond}
+use mathlib.Core.Bool.{cond}
 use lib.Ieee.{Float, binary32, eq, mul, toUnsigned, ofBits, toBits}
 use Rattle.std.specs.Floats.{roundAway}
 use Rattle.draw.specs.declared.color.Color.{Color}

@@ -1,2 +1,4 @@
 pub mod Tags
 pub mod Color
+pub mod Ramp
+pub mod Laws

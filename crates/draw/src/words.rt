@@ -1,6 +1,5 @@
 ghost use mathlib.Core.Path.{_≡_};
-ghost use mathlib.Core.Bool.{cond};
-ghost use lib.Ieee.{binary32, ofBits, toBits, mul};
+ghost use lib.Ieee.{binary32, ofBits, toBits};
 ghost use Rattle.draw.specs.Color.{channel, colorWord, faded, bitsOf, stopOf};
 use crate::color::Color;
 use crate::color::ColorStop;

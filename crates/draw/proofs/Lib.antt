@@ -1,0 +1,5 @@
+mod Walk
+mod Filled
+mod Order
+mod Effective
+mod Sampled
