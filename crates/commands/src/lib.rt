@@ -1,0 +1,34 @@
+// The commands of a job: each line read into one, or a reason why it is none.
+mod compounds;
+mod fields;
+mod floats;
+mod gradient;
+mod lay;
+mod lines;
+mod lists;
+mod others;
+mod picture;
+mod reason;
+mod run;
+mod scene;
+mod stream;
+mod values;
+mod verb;
+
+pub use gradient::GradientCommand;
+pub use lay::LayCommand;
+pub use lines::read_only_name;
+pub use lines::read_only_stream;
+pub use others::AppendCommand;
+pub use others::PlainCommand;
+pub use picture::PictureCommand;
+pub use reason::Reason;
+pub use reason::ReasonDisplay;
+pub use reason::ReasonFromAlloc;
+pub use reason::ReasonFromRefused;
+pub use run::RunCommand;
+pub use scene::SceneCommand;
+pub use stream::Stream;
+pub use stream::StreamDisplay;
+pub use verb::Verb;
+pub use verb::VerbDisplay;

@@ -1,0 +1,4 @@
+pub mod Rule
+pub mod Shifts
+pub mod Eight
+pub mod Parts

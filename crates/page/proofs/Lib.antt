@@ -1,0 +1,5 @@
+pub mod Kept
+pub mod Lengths
+mod Packed
+mod Parts
+mod Clipped

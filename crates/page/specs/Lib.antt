@@ -1,0 +1,10 @@
+pub mod Page
+pub mod Layout
+pub mod Pack
+pub mod Nothing
+pub mod Plain
+pub mod Viewed
+pub mod Parts
+pub mod Opened
+pub mod Laws
+pub mod Examples
