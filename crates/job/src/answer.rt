@@ -49,7 +49,10 @@ fn show_packed<W: fmt::Write>(packed: &Packed, f: &mut fmt::Formatter<W>) -> fmt
     write!(f, " page={page:08x} rest={rest:08x}")
 }
 
-fn show_pack_refusal<W: fmt::Write>(refusal: PackRefusal, f: &mut fmt::Formatter<W>) -> fmt::Result {
+fn show_pack_refusal<W: fmt::Write>(
+    refusal: PackRefusal,
+    f: &mut fmt::Formatter<W>,
+) -> fmt::Result {
     let number = refusal.number();
     write!(f, "refused {number}")?;
     match refusal {

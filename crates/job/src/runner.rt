@@ -24,6 +24,7 @@ use std::fmt;
 use std::fmt::Write;
 
 const MOST_LINES: usize = 1_000_000;
+
 const LONGEST_LINE: usize = 16_777_216;
 
 // What ended a job, and at which line.
@@ -57,13 +58,24 @@ fn said(result: fmt::Result) -> Result<(), Reason> {
     }
 }
 
-fn say(out: &mut String, number: usize, verb: Verb, name: Name, answer: Answer<'_>) -> Result<(), Reason> {
+fn say(
+    out: &mut String,
+    number: usize,
+    verb: Verb,
+    name: Name,
+    answer: Answer<'_>,
+) -> Result<(), Reason> {
     said(writeln!(out, "{number} {verb} {name}: {answer}"))
 }
 
 impl<'a> Runner<'a> {
     pub fn new(heap: Global, text: &'a [u8]) -> Runner<'a> {
-        Runner { heap, lines: Lines::new(text), line: 0, session: Session::new(heap) }
+        Runner {
+            heap,
+            lines: Lines::new(text),
+            line: 0,
+            session: Session::new(heap),
+        }
     }
 
     fn scene(&mut self, line: &mut Line<'_>, out: &mut String) -> Result<(), Reason> {
@@ -124,7 +136,12 @@ impl<'a> Runner<'a> {
         said(writeln!(out, "{number} view {stream}: {answer}"))
     }
 
-    fn run_verb(&mut self, verb: Verb, line: &mut Line<'_>, out: &mut String) -> Result<(), Reason> {
+    fn run_verb(
+        &mut self,
+        verb: Verb,
+        line: &mut Line<'_>,
+        out: &mut String,
+    ) -> Result<(), Reason> {
         match verb {
             Verb::Scene => self.scene(line, out),
             Verb::Lay => self.lay(line, out),
@@ -161,7 +178,10 @@ impl<'a> Runner<'a> {
         self.line = self.line.saturating_add(1);
         match self.run_line(bytes, out) {
             Ok(()) => Ok(true),
-            Err(reason) => Err(Fault { line: self.line, reason }),
+            Err(reason) => Err(Fault {
+                line: self.line,
+                reason,
+            }),
         }
     }
 }

@@ -65,7 +65,11 @@ fn part_of<'a>(reader: PageReader<'a>, stream: Stream) -> &'a [u8] {
 
 impl Session {
     pub fn new(heap: Global) -> Session {
-        Session { heap, scenes: BTreeMap::new(heap), page: None }
+        Session {
+            heap,
+            scenes: BTreeMap::new(heap),
+            page: None,
+        }
     }
 
     pub fn scene(&mut self, c: &SceneCommand) -> Result<Answer<'static>, Reason> {
@@ -87,7 +91,12 @@ impl Session {
     pub fn gradient(&mut self, c: &GradientCommand) -> Result<Answer<'static>, Reason> {
         match self.scenes.get_mut(&c.scene) {
             Some(scene) => {
-                Ok(answered(scene.encode_linear_gradient(c.gradient, c.stops.as_slice(), c.alpha, c.extend)))
+                Ok(answered(scene.encode_linear_gradient(
+                    c.gradient,
+                    c.stops.as_slice(),
+                    c.alpha,
+                    c.extend,
+                )))
             }
             None => Err(Reason::NoScene(c.scene)),
         }
@@ -142,7 +151,12 @@ impl Session {
             Ok((layout, length)) => {
                 let length = length.min(bytes.len());
                 let (page, rest) = bytes.as_slice().split_at(length);
-                let packed = Packed { length, layout, page: checksum(page), rest: checksum(rest) };
+                let packed = Packed {
+                    length,
+                    layout,
+                    page: checksum(page),
+                    rest: checksum(rest),
+                };
                 bytes.truncate(length);
                 self.page = Some(Page { bytes, layout });
                 Ok(Answer::Packed(packed))

@@ -21,14 +21,22 @@ pub struct Shown<'a> {
 
 fn show_patch<W: fmt::Write>(patch: &Patch, f: &mut fmt::Formatter<W>) -> fmt::Result {
     match *patch {
-        Patch::Ramp { draw_data_offset, stops_start, stops_end, extend } => {
+        Patch::Ramp {
+            draw_data_offset,
+            stops_start,
+            stops_end,
+            extend,
+        } => {
             let extend = extend.number();
             write!(f, "g/{draw_data_offset}/{stops_start}/{stops_end}/{extend}")
         }
         Patch::GlyphRun { index } => write!(f, "r/{index}"),
-        Patch::Image { draw_data_offset, id, width, height } => {
-            write!(f, "p/{draw_data_offset}/{id}/{width}/{height}")
-        }
+        Patch::Image {
+            draw_data_offset,
+            id,
+            width,
+            height,
+        } => { write!(f, "p/{draw_data_offset}/{id}/{width}/{height}") }
     }
 }
 
@@ -42,7 +50,10 @@ fn show_patches<W: fmt::Write>(patches: &[Patch], f: &mut fmt::Formatter<W>) -> 
     Ok(())
 }
 
-fn show_transform<W: fmt::Write>(transform: Option<Transform>, f: &mut fmt::Formatter<W>) -> fmt::Result {
+fn show_transform<W: fmt::Write>(
+    transform: Option<Transform>,
+    f: &mut fmt::Formatter<W>,
+) -> fmt::Result {
     match transform {
         Some(t) => {
             let crc = sum_of(&[t]).crc;
@@ -64,7 +75,14 @@ fn show_run<W: fmt::Write>(run: &GlyphRun, f: &mut fmt::Formatter<W>) -> fmt::Re
     show_transform(attributes.glyph_transform, f)?;
     show_transform(attributes.brush_transform, f)?;
     let o = run.stream_offsets;
-    for offset in [o.path_tags, o.path_data, o.draw_tags, o.draw_data, o.transforms, o.styles] {
+    for offset in [
+        o.path_tags,
+        o.path_data,
+        o.draw_tags,
+        o.draw_data,
+        o.transforms,
+        o.styles,
+    ] {
         write!(f, "/{offset}")?;
     }
     Ok(())
@@ -84,11 +102,17 @@ fn show_streams<W: fmt::Write>(scene: &Encoding, f: &mut fmt::Formatter<W>) -> f
     let path_tags = Summary::of_bytes(scene.path_tags());
     let path_data = sum_of(scene.path_data());
     let draw_tags = sum_of(scene.draw_tags());
-    write!(f, "path_tags={path_tags} path_data={path_data} draw_tags={draw_tags}")?;
+    write!(
+        f,
+        "path_tags={path_tags} path_data={path_data} draw_tags={draw_tags}"
+    )?;
     let draw_data = sum_of(scene.draw_data());
     let transforms = sum_of(scene.transforms());
     let styles = sum_of(scene.styles());
-    write!(f, " draw_data={draw_data} transforms={transforms} styles={styles}")
+    write!(
+        f,
+        " draw_data={draw_data} transforms={transforms} styles={styles}"
+    )
 }
 
 fn show_resources<W: fmt::Write>(scene: &Encoding, f: &mut fmt::Formatter<W>) -> fmt::Result {
@@ -111,6 +135,9 @@ pub impl fmt::Display for Shown<'_> as ShownDisplay {
         let clips = counts.n_clips;
         let open_clips = counts.n_open_clips;
         let flags = self.scene.flags();
-        write!(f, " clips={clips} open_clips={open_clips} flags={flags:08x}")
+        write!(
+            f,
+            " clips={clips} open_clips={open_clips} flags={flags:08x}"
+        )
     }
 }

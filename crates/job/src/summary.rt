@@ -61,7 +61,10 @@ pub(crate) impl Summed for Glyph as GlyphSummed {
 
 impl Summary {
     pub fn of_bytes(bytes: &[u8]) -> Summary {
-        Summary { len: bytes.len(), crc: checksum(bytes) }
+        Summary {
+            len: bytes.len(),
+            crc: checksum(bytes),
+        }
     }
 }
 
@@ -70,7 +73,10 @@ pub(crate) fn sum_of<T: Summed>(entries: &[T]) -> Summary {
     for x in entries {
         x.feed(&mut crc);
     }
-    Summary { len: entries.len(), crc: crc.finish() }
+    Summary {
+        len: entries.len(),
+        crc: crc.finish(),
+    }
 }
 
 pub impl fmt::Display for Summary as SummaryDisplay {

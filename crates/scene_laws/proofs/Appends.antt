@@ -51,7 +51,7 @@ past-twice a b r =
     let k : r .«draw_tags» + length (a .draw-tags ++ b .draw-tags) ≡ (r .«draw_tags» + length (b .draw-tags)) + length (a .draw-tags) = omega (arith, length-append (a .draw-tags) (b .draw-tags)) in
     let l : r .«draw_data» + length (a .draw-data ++ b .draw-data) ≡ (r .«draw_data» + length (b .draw-data)) + length (a .draw-data) = omega (arith, length-append (a .draw-data) (b .draw-data)) in
     let m : r .transforms + length (a .transforms ++ map (under None) (b .transforms)) ≡ (r .transforms + length (b .transforms)) + length (a .transforms)
-          = rw (under-none (b .transforms)) (omega (arith, length-append (a .transforms) (b .transforms))) in
+    = rw (under-none (b .transforms)) (omega (arith, length-append (a .transforms) (b .transforms))) in
     let n : r .styles + length (a .styles ++ b .styles) ≡ (r .styles + length (b .styles)) + length (a .styles) = omega (arith, length-append (a .styles) (b .styles)) in
     cc
 
@@ -92,7 +92,7 @@ associates a b c =
     let lw = length-append (a .draw-data) (b .draw-data) in
     let ls = length-append (a .stops) (b .stops) in
     let lr : length (a .runs ++ map (movedRun None (ends a) (length (a .glyphs))) (b .runs)) ≡ length (a .runs) + length (b .runs)
-           = length-append (a .runs) (map (movedRun None (ends a) (length (a .glyphs))) (b .runs)) ∙ ap (λ n. length (a .runs) + n) (length-mapped (movedRun None (ends a) (length (a .glyphs))) (b .runs)) in
+    = length-append (a .runs) (map (movedRun None (ends a) (length (a .glyphs))) (b .runs)) ∙ ap (λ n. length (a .runs) + n) (length-mapped (movedRun None (ends a) (length (a .glyphs))) (b .runs)) in
     let t7 = patches-twice (length (a .draw-data)) (length (a .stops)) (length (a .runs)) (length (b .draw-data)) (length (b .stops)) (length (b .runs)) _ _ _ lw ls lr (c .patches) in
     let p8 = append-assoc (a .stops) (b .stops) (c .stops) in
     let p9 = append-assoc (a .glyphs) (b .glyphs) (c .glyphs) in

@@ -29,9 +29,22 @@ pub record InFront (s after : Scene) : Type 0 where
 -- a scene with other flags
 abbrev pub flagged : Scene → ℕ → Scene
 flagged s f = record {
-  path-tags = s .path-tags; path-data = s .path-data; draw-tags = s .draw-tags; draw-data = s .draw-data; transforms = s .transforms; styles = s .styles;
-  patches = s .patches; stops = s .stops; glyphs = s .glyphs; runs = s .runs;
-  paths = s .paths; segments = s .segments; clips = s .clips; open-clips = s .open-clips; flags = f }
+  path-tags = s .path-tags;
+  path-data = s .path-data;
+  draw-tags = s .draw-tags;
+  draw-data = s .draw-data;
+  transforms = s .transforms;
+  styles = s .styles;
+  patches = s .patches;
+  stops = s .stops;
+  glyphs = s .glyphs;
+  runs = s .runs;
+  paths = s .paths;
+  segments = s .segments;
+  clips = s .clips;
+  open-clips = s .open-clips;
+  flags = f;
+}
 
 pub record AppendLaws : Type 0 where
   pub in-front : (s o : Scene) (t : Option Transform) → InFront s (appended s o t)

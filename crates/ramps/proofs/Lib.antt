@@ -1,0 +1,9 @@
+pub mod SameKeys
+pub mod Lowest
+pub mod Stored
+pub mod Steps
+pub mod Parted
+pub mod Sheets
+pub mod Stepping
+pub mod Paging
+pub mod Lawful
