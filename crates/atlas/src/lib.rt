@@ -1,4 +1,6 @@
 // The atlas in which pictures find their places: the trait by its meaning, the shelf atlas and the corner atlas.
+#![tactic(auto)]
+
 mod atlas;
 mod corner;
 mod corner_atlas;

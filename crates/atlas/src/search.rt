@@ -114,6 +114,6 @@ pub(crate) fn first_free(
     ensures { result ≡ least_place side slots width height }
 {
     let mut rects = slots;
-    rects.sort();
+    rects.sort_unstable();
     least_place(&rects, side, width, height)
 }

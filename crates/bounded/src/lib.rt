@@ -1,4 +1,6 @@
 // A list that is made whole, with room for a number of entries that it never passes.
+#![tactic(auto)]
+
 mod bounded_vec;
 mod calls;
 mod mapping;

@@ -1,4 +1,6 @@
 // The commands of a job: each line read into one, or a reason why it is none.
+#![tactic(auto)]
+
 mod compounds;
 mod fields;
 mod floats;

@@ -1,4 +1,6 @@
 // Runs the job in the file that its one argument names, or from standard input.
+#![tactic(auto)]
+
 use anyhow::anyhow;
 use job::Runner;
 use std::io::Read;

@@ -1,4 +1,6 @@
 // Draw and path tags, colours and their words, and the stops and samples of gradients.
+#![tactic(auto)]
+
 mod color;
 mod laws;
 mod ramp;

@@ -1,4 +1,6 @@
 // A scene: six streams, the resources that are bound late, counts and flags, and the calls that build it.
+#![tactic(auto)]
+
 mod append;
 mod encoding;
 mod glyph_run;

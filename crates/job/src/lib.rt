@@ -1,4 +1,6 @@
 // Running a job: its lines in order, each command's answer as a line of text.
+#![tactic(auto)]
+
 mod answer;
 mod lines;
 mod packed;

@@ -11,8 +11,8 @@ use Rattle.job_text.specs.Numerals.{word_of}
 abbrev pub as_bits : List ℕ → Bool
 as_bits text = slice_index text 0 == 120
 
-abbrev pub from_bits : List ℕ → Option Float
-from_bits text = cond (length text == 9) (option_map (from_bits binary32) (word_of (drop 1 text))) None
+abbrev pub float_from_bits : List ℕ → Option Float
+float_from_bits text = cond (length text == 9) (option_map (from_bits binary32) (word_of (drop 1 text))) None
 
 -- which texts are read, and what a whole number of 32 bits gives
 pub record FromDecimal (text : List ℕ) (r : Option Float) : Type 0 where
@@ -21,4 +21,4 @@ pub record FromDecimal (text : List ℕ) (r : Option Float) : Type 0 where
   pub whole : IsUtf8 text → IsNumeral 10 (without_leading_plus text) → digits_value 10 (without_leading_plus text) < 2 ^ 32 → r ≡ Some (of_int binary32 (pos (digits_value 10 (without_leading_plus text))))
 
 abbrev pub FloatOf : List ℕ → Option Float → Type 0
-FloatOf text r = MatchBool (as_bits text) (r ≡ from_bits text) (FromDecimal text r)
+FloatOf text r = MatchBool (as_bits text) (r ≡ float_from_bits text) (FromDecimal text r)

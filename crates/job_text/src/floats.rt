@@ -1,4 +1,4 @@
-ghost use Rattle.job_text.specs.Floats.{from_bits, FromDecimal, FloatOf};
+ghost use Rattle.job_text.specs.Floats.{float_from_bits, FromDecimal, FloatOf};
 ghost use Rattle.std.specs.Prelude.{◌≡◌};
 
 use crate::numerals::hex_word;
@@ -7,7 +7,7 @@ use std::str;
 
 // `x` and eight hexadecimal digits.
 fn from_bits(text: &[u8]) -> Option<f32>
-    ensures { result ≡ from_bits text.now }
+    ensures { result ≡ float_from_bits text.now }
 {
     if text.len() != 9 {
         return None;

@@ -1,5 +1,7 @@
 // Reading the text of a job: words, names, numbers and lists.
 // Nothing is asked of the bytes, and the work is in proportion to their number.
+#![tactic(auto)]
+
 mod finds;
 mod flaw;
 mod floats;

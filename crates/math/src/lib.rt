@@ -1,5 +1,7 @@
 // Affine transforms: four numbers of matrix and two of translation, and their product.
 // Each operation is rounded once, to binary32, in the order in which it is written.
+#![tactic(auto)]
+
 mod product;
 mod transform;
 

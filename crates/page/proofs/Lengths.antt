@@ -1,8 +1,8 @@
 -- The streams of a page, and the page, are as long as the arithmetic says.
 use Rattle.std.proofs.Common.{◌≡◌, ℕ, ◌+◌, ◌-◌, ◌*◌, ◌/◌, ◌≤◌, List, ◌++◌, length, replicate, sym, refl, ap, ◌∙◌, arith}
 use Rattle.std.proofs.lemmas.List.{length-append, length-replicate}
-use Rattle.bytes.specs.Bytes.{word_bytes}
-use Rattle.bytes.proofs.Splice.{length_joined}
+use Rattle.byte_writers.specs.Bytes.{word_bytes}
+use Rattle.byte_writers.proofs.Splice.{length_joined}
 use Rattle.supply.specs.Meaning.{Meaning}
 use Rattle.streams.specs.Kind.{stream_of}
 use Rattle.streams.specs.Kinds.{tags_kind, data_kind, transforms_kind, styles_kind}

@@ -5,7 +5,7 @@ use Rattle.math.specs.Product.{identity, zero, one}
 use Rattle.records.specs.declared.glyph.Glyph.{Glyph}
 use Rattle.records.specs.declared.glyph.GlyphRun.{GlyphRun}
 use Rattle.records.specs.declared.patch.Patch.TheVariants.{GlyphRun as Run}
-use Rattle.bytes.specs.Bytes.{float_bytes}
+use Rattle.byte_writers.specs.Bytes.{float_bytes}
 use Rattle.supply.specs.Meaning.{Meaning, Shape}
 use Rattle.encoding.specs.Scene.{Scene}
 use Rattle.encoding.specs.Shape.{start}

@@ -2,7 +2,7 @@
 use Rattle.std.specs.Prelude.{ℕ, ◌+◌, ◌-◌, ◌*◌, ◌/◌, List, ◌++◌, length, replicate}
 use Rattle.records.specs.declared.style.Style.{Style}
 use Rattle.math.specs.declared.transform.Transform.{Transform}
-use Rattle.bytes.specs.Bytes.{words_bytes}
+use Rattle.byte_writers.specs.Bytes.{words_bytes}
 use Rattle.supply.specs.Meaning.{Meaning}
 use Rattle.streams.specs.Kind.{stream_of, stream_bytes}
 use Rattle.streams.specs.Kinds.{tags_kind, data_kind, transforms_kind, styles_kind}

@@ -1,4 +1,6 @@
 // Packed pages: the layout and bytes of a scene's six streams, the plain pack, and the reader of a page.
+#![tactic(auto)]
+
 mod examples;
 mod laws;
 mod layout;

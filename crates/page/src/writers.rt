@@ -1,6 +1,6 @@
 ghost use Rattle.std.specs.Prelude.{◌+◌, ◌*◌, ◌≤◌, ◌++◌, length, replicate};
-ghost use Rattle.bytes.specs.Bytes.{words_bytes};
-ghost use Rattle.bytes.specs.Put.{Put};
+ghost use Rattle.byte_writers.specs.Bytes.{words_bytes};
+ghost use Rattle.byte_writers.specs.Put.{Put};
 ghost use Rattle.streams.specs.Draw.{Owned};
 ghost use Rattle.encoding.specs.Scene.{Sound};
 ghost use Rattle.page.specs.Page.{path_tag_stream, page_of};
@@ -8,7 +8,7 @@ ghost use Rattle.page.specs.Layout.{inserted_by, sizes_with, page_length};
 ghost use Rattle.page.specs.Viewed.{viewed};
 
 use crate::view::SceneView;
-use bytes::{put_fill_at, put_word_fill_at, put_words_at};
+use byte_writers::{put_fill_at, put_word_fill_at, put_words_at};
 use draw::{DrawTag, PathTag};
 use streams::{LateWords, PathData, PathTags, Styles, Transforms, put_draw_data, put_stream};
 use supply::GlyphSupply;

@@ -1,4 +1,6 @@
 // Gradient rows: which row each gradient of a page has, and the sheet of the rows' samples.
+#![tactic(auto)]
+
 mod adding;
 mod calls;
 mod drawing;

@@ -1,4 +1,6 @@
 // The records of a scene, and what may be asked of each before it goes into one.
+#![tactic(auto)]
+
 mod finite;
 mod glyph;
 mod image;

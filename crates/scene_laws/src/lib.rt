@@ -1,4 +1,6 @@
 // What appending does to whole scenes, beyond the definition that `Encoding::append` is proved equal to.
+#![tactic(auto)]
+
 ghost use Rattle.scene_laws.specs.AppendLaws.{AppendLaws};
 
 // Append keeps the first scene in front, an empty scene changes only the flags, and without a

@@ -3,9 +3,9 @@ use Rattle.std.proofs.Common.{◌≡◌, ℕ, ◌+◌, ◌-◌, ◌*◌, ◌<◌
 use Rattle.std.specs.List.{between, flat_map}
 use Rattle.std.proofs.lemmas.List.{drop_more, drop_all, length-append}
 use Rattle.std.proofs.lemmas.List.Sums.{sum_by-cons}
-use Rattle.bytes.proofs.Splice.{length_joined}
-use Rattle.bytes.specs.Put.{Put}
-use Rattle.bytes.proofs.Joins.{length_joined_by, put_as}
+use Rattle.byte_writers.proofs.Splice.{length_joined}
+use Rattle.byte_writers.specs.Put.{Put}
+use Rattle.byte_writers.proofs.Joins.{length_joined_by, put_as}
 use Rattle.records.specs.declared.glyph.Glyph.{Glyph}
 use Rattle.records.specs.declared.glyph.GlyphRun.{GlyphRun}
 use Rattle.streams.specs.Splice.{Cut, spliced, Cuts}

@@ -3,10 +3,10 @@ use Rattle.std.proofs.Common.{◌≡◌, ℕ, ◌+◌, ◌-◌, ◌*◌, ◌<◌
 use Rattle.std.specs.List.{between}
 use Rattle.std.proofs.lemmas.List.{drop_more, drop_all}
 use Rattle.std.proofs.lemmas.List.Sums.{sum_by-cons}
-use Rattle.bytes.specs.Bytes.{word_bytes, words_bytes}
-use Rattle.bytes.specs.Put.{Put}
-use Rattle.bytes.proofs.Splice.{length_joined}
-use Rattle.bytes.proofs.Joins.{put_as}
+use Rattle.byte_writers.specs.Bytes.{word_bytes, words_bytes}
+use Rattle.byte_writers.specs.Put.{Put}
+use Rattle.byte_writers.proofs.Splice.{length_joined}
+use Rattle.byte_writers.proofs.Joins.{put_as}
 use Rattle.records.specs.declared.patch.Patch.{Patch}
 use Rattle.records.specs.declared.patch.Patch.TheVariants.{Ramp, GlyphRun as Run, Image}
 use Rattle.streams.specs.Splice.{Cut, Cuts}

@@ -4,10 +4,10 @@ use Rattle.std.specs.List.{flat_map, between}
 use Rattle.std.proofs.lemmas.List.{length-append, length-drop, length-take-le}
 use Rattle.std.proofs.lemmas.List.Edits.{length-between}
 use Rattle.std.proofs.lemmas.List.Sums.{sum_by-cons}
-use Rattle.bytes.specs.Filled.{Filled}
-use Rattle.bytes.specs.Put.{Put}
-use Rattle.bytes.proofs.Splice.{filled_as, start_at}
-use Rattle.bytes.proofs.Joins.{joined_append, length_joined_append, puts, put_from}
+use Rattle.byte_writers.specs.Filled.{Filled}
+use Rattle.byte_writers.specs.Put.{Put}
+use Rattle.byte_writers.proofs.Splice.{filled_as, start_at}
+use Rattle.byte_writers.proofs.Joins.{joined_append, length_joined_append, puts, put_from}
 use Rattle.streams.specs.Splice.{Cut, spliced, Cuts}
 
 pub cuts_end : {X : Type 0} (n f : ℕ) (cs : List (Cut X)) → Cuts n f cs → f ≤ n

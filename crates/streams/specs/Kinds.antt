@@ -2,7 +2,7 @@
 use Rattle.std.specs.Prelude.{ℕ, List, [], ◌∷◌, refl}
 use Rattle.math.specs.declared.transform.Transform.{Transform}
 use Rattle.records.specs.declared.style.Style.{Style}
-use Rattle.bytes.specs.Bytes.{byte, word_bytes, words_bytes, transform_bytes}
+use Rattle.byte_writers.specs.Bytes.{byte, word_bytes, words_bytes, transform_bytes}
 use Rattle.supply.specs.Meaning.{Meaning}
 use Rattle.streams.specs.Inserted.{session_of, outline_of, glyph_transform, brush_transform}
 use Rattle.streams.specs.Kind.{Kind}

@@ -1,12 +1,12 @@
 ghost use Rattle.std.specs.Prelude.{◌≡◌, ◌+◌, ◌*◌, ◌≤◌, length};
-ghost use Rattle.bytes.specs.Bytes.{words_bytes};
-ghost use Rattle.bytes.specs.Put.{Put};
+ghost use Rattle.byte_writers.specs.Bytes.{words_bytes};
+ghost use Rattle.byte_writers.specs.Put.{Put};
 ghost use Rattle.streams.specs.Splice.{Cuts};
 ghost use Rattle.streams.specs.Draw.{bound_words, owned_from, draw_data_cuts, bound_draw_data};
 
 use crate::late::Bound;
 use crate::late_words::LateWords;
-use bytes::put_words_at;
+use byte_writers::put_words_at;
 use records::Patch;
 
 // Where the words that a patch owns begin.

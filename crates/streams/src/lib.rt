@@ -1,4 +1,6 @@
 // The streams of a packed page: the four that glyph runs go into, and the draw data with what is bound late.
+#![tactic(auto)]
+
 mod count;
 mod draw_data;
 mod glyphs;

@@ -2,7 +2,7 @@ ghost use Rattle.streams.specs.Kinds.{data_kind};
 
 use crate::glyphs::{has_session, outline_of};
 use crate::stream::RunStream;
-use bytes::put_words_at;
+use byte_writers::put_words_at;
 use records::{Glyph, GlyphRun};
 use supply::GlyphSupply;
 

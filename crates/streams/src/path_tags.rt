@@ -2,7 +2,7 @@ ghost use Rattle.streams.specs.Kinds.{tags_kind};
 
 use crate::glyphs::{has_session, outline_of};
 use crate::stream::RunStream;
-use bytes::put_bytes_at;
+use byte_writers::put_bytes_at;
 use records::{Glyph, GlyphRun};
 use supply::GlyphSupply;
 

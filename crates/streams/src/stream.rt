@@ -1,6 +1,6 @@
 ghost use Rattle.std.specs.Prelude.{◌≡◌, ◌+◌, ◌≤◌, length};
 ghost use Rattle.std.specs.List.{flat_map};
-ghost use Rattle.bytes.specs.Put.{Put};
+ghost use Rattle.byte_writers.specs.Put.{Put};
 ghost use Rattle.streams.specs.Kind.{Kind};
 
 use records::{Glyph, GlyphRun};

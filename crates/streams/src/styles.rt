@@ -1,11 +1,11 @@
 ghost use Rattle.std.specs.Prelude.{◌≡◌, ◌+◌, ◌*◌, ◌≤◌, length};
 ghost use Rattle.std.specs.List.{flat_map};
-ghost use Rattle.bytes.specs.Put.{Put};
+ghost use Rattle.byte_writers.specs.Put.{Put};
 ghost use Rattle.streams.specs.Kinds.{styles_kind, style_bytes};
 
 use crate::glyphs::{has_session, outline_of};
 use crate::stream::RunStream;
-use bytes::put_words;
+use byte_writers::put_words;
 use records::{Glyph, GlyphRun, Style};
 use supply::GlyphSupply;
 

@@ -2,7 +2,7 @@ ghost use Rattle.streams.specs.Kinds.{transforms_kind};
 
 use crate::glyphs::{brush_transform, glyph_transform, has_session};
 use crate::stream::RunStream;
-use bytes::put_transforms_at;
+use byte_writers::put_transforms_at;
 use math::Transform;
 use records::{Glyph, GlyphRun};
 use supply::GlyphSupply;

@@ -1,4 +1,6 @@
 // Where the outlines of glyphs come from: a supply is known by its meaning alone.
+#![tactic(auto)]
+
 mod glyph_supply;
 mod outline;
 

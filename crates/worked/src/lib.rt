@@ -1,4 +1,6 @@
 // Worked values of the definitions, proved by computing them.
+#![tactic(auto)]
+
 ghost use Rattle.worked.specs.Worked.{Worked};
 
 // The values hold; the answer itself says nothing.

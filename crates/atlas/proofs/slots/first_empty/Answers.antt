@@ -4,18 +4,18 @@ use Rattle.std.proofs.lemmas.List.{at_drop_more, at_drop_all}
 use Rattle.atlas.specs.Slots.{vacant}
 use Rattle.atlas.proofs.slots.first_empty.Goals as goal
 
-pub returns-then-is-none : goal.returns-then-is-none
-returns-then-is-none c =
+pub returns-then-is_none : goal.returns-then-is_none
+returns-then-is_none c =
     let ss = c.args.slots.now in
     let i = c.loop-i.i in
-    let e = at_drop_more vacant ss i None c.loop-i-test.true ∙ ap (λ b. cond b (1 + vacant (drop (i + 1) ss)) 0) c.if-is-none.ensures in
+    let e = at_drop_more vacant ss i None c.loop-i-test.true ∙ ap (λ b. cond b (1 + vacant (drop (i + 1) ss)) 0) c.if-is_none.ensures in
     omega arith
 
 pub loop-i-preserved : goal.loop-i-preserved
 loop-i-preserved c =
     let ss = c.args.slots.now in
     let i = c.loop-i.i in
-    let e = at_drop_more vacant ss i None c.loop-i-test.true ∙ ap (λ b. cond b (1 + vacant (drop (i + 1) ss)) 0) c.if-is-none.ensures in
+    let e = at_drop_more vacant ss i None c.loop-i-test.true ∙ ap (λ b. cond b (1 + vacant (drop (i + 1) ss)) 0) c.if-is_none.ensures in
     omega arith
 
 pub returns : goal.returns

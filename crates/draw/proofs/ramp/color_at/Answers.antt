@@ -13,11 +13,11 @@ returns-then-u-first c =
 pub returns-else-u-later : goal.returns-else-u-later
 returns-else-u-later c =
     let r = take_rest c.args.stops.now (c.loop-i.i + 1) in
-    let e = walk_ends c.args.u c.loop-i.earlier c.effective-offset-later.result c.loop-i.color c.args.stops.now c.loop-i.i _ c.loop-i-test.true c.effective-offset-later.ensures c.if-u-later.false in cc
+    let e = walk_ends c.args.u c.loop-i.earlier c.effective_offset-later.result c.loop-i.color c.args.stops.now c.loop-i.i _ c.loop-i-test.true c.effective_offset-later.ensures c.if-u-later.false in cc
 
 pub loop-i-preserved : goal.loop-i-preserved
 loop-i-preserved c =
-    sym (walk_on c.args.u c.loop-i.earlier c.effective-offset-later.result c.loop-i.color c.args.stops.now c.loop-i.i _ c.loop-i-test.true c.effective-offset-later.ensures c.if-u-later.true)
+    sym (walk_on c.args.u c.loop-i.earlier c.effective_offset-later.result c.loop-i.color c.args.stops.now c.loop-i.i _ c.loop-i-test.true c.effective_offset-later.ensures c.if-u-later.true)
     ∙ c.loop-i.invariant
 
 pub returns : goal.returns

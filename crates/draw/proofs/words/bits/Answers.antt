@@ -5,5 +5,5 @@ use Rattle.draw.proofs.words.bits.Goals as goal
 
 pub returns : goal.returns
 returns c =
-    let e = c.f32-to-bits-with-nan.ensures in
-    record { is = e; back = ap (of_bits binary32) e ∙ of_bits-to_bits binary32 c.args.x (subst T (sym c.well-formed.0.1) tt) }
+    let e = c.f32_to_bits_with_nan.ensures in
+    record { is = e; back = ap (of_bits binary32) e ∙ of_bits-to_bits binary32 c.args.x (subst T (sym c.well_formed.0.1) tt) }

@@ -1,7 +1,7 @@
 use Rattle.std.proofs.Common.{replicate, sym, refl, arith}
-use Rattle.bytes.specs.Bytes.{word_bytes}
-use Rattle.bytes.proofs.Splice.{length_joined}
-use Rattle.bytes.proofs.Joins.{joined_append, put_then, put_as}
+use Rattle.byte_writers.specs.Bytes.{word_bytes}
+use Rattle.byte_writers.proofs.Splice.{length_joined}
+use Rattle.byte_writers.proofs.Joins.{joined_append, put_then, put_as}
 use Rattle.page.proofs.writers.put_draw_tags.Goals as goal
 
 pub put-word-fill-at-requires : goal.put-word-fill-at-requires

@@ -1,5 +1,5 @@
 use Rattle.std.proofs.Common.{◌+◌, arith}
-use Rattle.bytes.proofs.Joins.{put_then}
+use Rattle.byte_writers.proofs.Joins.{put_then}
 use Rattle.page.specs.Viewed.{viewed}
 use Rattle.page.proofs.Kept.{inside_kept, data_kept, transforms_kept, styles_kept, draw_kept}
 use Rattle.page.proofs.Lengths.{tags_long, data_long, draw_tags_long, draw_data_long, transforms_long}

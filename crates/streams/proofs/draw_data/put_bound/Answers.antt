@@ -1,6 +1,6 @@
 use Rattle.std.proofs.Common.{sym, ap}
-use Rattle.bytes.specs.Bytes.{words_bytes}
-use Rattle.bytes.proofs.Joins.{none_put, put_as}
+use Rattle.byte_writers.specs.Bytes.{words_bytes}
+use Rattle.byte_writers.proofs.Joins.{none_put, put_as}
 use Rattle.streams.specs.Draw.{bound_words}
 use Rattle.streams.proofs.draw_data.put_bound.Goals as goal
 

@@ -1,9 +1,9 @@
 use Rattle.std.proofs.Common.{◌≡◌, ℕ, ◌+◌, ◌*◌, ◌≤◌, length, take, sym, refl, ap, ◌∙◌, arith}
 use Rattle.std.specs.List.{between}
 use Rattle.std.proofs.lemmas.List.{take_rest, length-take-le}
-use Rattle.bytes.specs.Bytes.{word_bytes, words_bytes}
-use Rattle.bytes.proofs.Splice.{length_joined}
-use Rattle.bytes.proofs.Joins.{put_from}
+use Rattle.byte_writers.specs.Bytes.{word_bytes, words_bytes}
+use Rattle.byte_writers.proofs.Splice.{length_joined}
+use Rattle.byte_writers.proofs.Joins.{put_from}
 use Rattle.streams.specs.Draw.{draw_data_cuts, bound_draw_data, bound_words}
 use Rattle.streams.proofs.Left.{begun, rest, ended, left_as}
 use Rattle.streams.proofs.Draw.{draw_size, patch_rises, patch_room, patch_advance, patch_passed, no_patch_left}

@@ -1,5 +1,5 @@
 use Rattle.std.proofs.Common.{take, drop}
-use Rattle.bytes.specs.Bytes.{word_bytes}
+use Rattle.byte_writers.specs.Bytes.{word_bytes}
 use Rattle.streams.specs.Draw.{draw_data_cuts, bound_draw_data}
 use Rattle.streams.proofs.Left.{Left}
 use Rattle.streams.proofs.draw_data.put_draw_data.Given as goal

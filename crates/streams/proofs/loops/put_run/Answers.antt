@@ -1,13 +1,13 @@
 use Rattle.std.proofs.Common.{◌≡◌, ℕ, ◌+◌, true, false, cond, List, [], ◌∷◌, ◌++◌, length, take, sym, ap, ◌∙◌, subst, append_assoc, append-nil, arith}
 use Rattle.std.specs.List.{flat_map}
 use Rattle.std.proofs.lemmas.List.{length-take-le, length-append}
-use Rattle.bytes.proofs.Splice.{start_at, filled_as}
+use Rattle.byte_writers.proofs.Splice.{start_at, filled_as}
 use Rattle.records.specs.declared.glyph.Glyph.{Glyph}
 use Rattle.records.specs.declared.glyph.GlyphRun.{GlyphRun}
-use Rattle.bytes.specs.Put.{Put}
+use Rattle.byte_writers.specs.Put.{Put}
 use Rattle.streams.specs.Kind.{Kind, put_of}
 use Rattle.streams.proofs.Nones.{no_glyph}
-use Rattle.bytes.proofs.Joins.{joined_append, joined_joined, room, more, whole, puts, none_put, put_from}
+use Rattle.byte_writers.proofs.Joins.{joined_append, joined_joined, room, more, whole, puts, none_put, put_from}
 use Rattle.streams.proofs.loops.put_run.Goals as goal
 
 with_session : {X : Type 0} (K : Kind X) (gs : List Glyph) (r : GlyphRun) → true ≡ K.session r

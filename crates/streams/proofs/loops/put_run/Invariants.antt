@@ -1,6 +1,6 @@
 use Rattle.std.proofs.Common.{◌++◌, take}
 use Rattle.std.specs.List.{flat_map}
-use Rattle.bytes.specs.Filled.{Filled}
+use Rattle.byte_writers.specs.Filled.{Filled}
 use Rattle.streams.proofs.loops.put_run.Given as goal
 
 abbrev pub invariant-loop-i : goal.invariant-loop-i

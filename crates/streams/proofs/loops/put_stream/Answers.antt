@@ -1,7 +1,7 @@
 use Rattle.std.proofs.Common.{◌≡◌, length, take, sym, ap, ◌∙◌, arith}
 use Rattle.std.specs.List.{flat_map}
 use Rattle.std.proofs.lemmas.List.{take_rest, length-take-le}
-use Rattle.bytes.proofs.Joins.{put_from}
+use Rattle.byte_writers.proofs.Joins.{put_from}
 use Rattle.streams.specs.Kind.{cuts_of, stream_of}
 use Rattle.streams.proofs.Nones.{no_run}
 use Rattle.streams.proofs.Left.{begun, rest, ended}

@@ -1,5 +1,5 @@
 use Rattle.std.proofs.Common.{◌≡◌, length, refl, arith}
-use Rattle.bytes.proofs.Splice.{record_more, records_all}
+use Rattle.byte_writers.proofs.Splice.{record_more, records_all}
 use Rattle.streams.specs.Kinds.{style_bytes}
 use Rattle.streams.proofs.styles.put_styles.Goals as goal
 

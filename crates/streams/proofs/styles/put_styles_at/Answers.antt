@@ -1,7 +1,7 @@
 use Rattle.std.proofs.Common.{◌+◌, sym, refl, ap}
 use Rattle.std.specs.List.{flat_map}
-use Rattle.bytes.proofs.Splice.{length_joined}
-use Rattle.bytes.proofs.Joins.{put_part}
+use Rattle.byte_writers.proofs.Splice.{length_joined}
+use Rattle.byte_writers.proofs.Joins.{put_part}
 use Rattle.streams.specs.Kinds.{style_bytes}
 use Rattle.streams.proofs.styles.put_styles_at.Goals as goal
 

@@ -7,10 +7,10 @@ use Rattle.atlas.specs.CornerView.{cornered}
 use Rattle.atlas.specs.CornerLaw.{corner_laws, state_sound}
 use Rattle.atlas.proofs.corner.CornerAtlasAtlas.free.Goals as goal
 
-pub invariant-of-self : goal.invariant-of-self
-invariant-of-self c =
+pub invariant_of-self : goal.invariant_of-self
+invariant_of-self c =
     let V = corner_laws.sound_freed (cornered c.args.self.now) c.args.handle (state_sound c.args.self.now) in
-    (V.small, (V.whole, (V.lies, (V.separate, tt))))
+    record { small = V.small; whole = V.whole; lies = V.lies; separate = V.separate }
 
 pub returns-else-handle-lt256 : goal.returns-else-handle-lt256
 returns-else-handle-lt256 c =

@@ -5,45 +5,45 @@ use Rattle.atlas.specs.ShelfView.{shelved}
 use Rattle.atlas.specs.ShelfCode.{code_gives, code_first, code_inside, code_open, code_put, opened, set_down}
 use Rattle.atlas.proofs.shelf.ShelfAtlasAtlas.place.Goals as goal
 
-pub returns-in-err-right : goal.returns-in-err-right
-returns-in-err-right c =
+pub returns-in_err-right : goal.returns-in_err-right
+returns-in_err-right c =
     let a = c.args.self.now in
     let w = c.args.width in
     let h = c.args.height in
-    let same : c.from-residual.result ≡ c.choose.result = c.from-residual.ensures ∙ sym c.in-err-right.was in
-    let gives = code_gives a w h c.first-empty-handle.result c.shelves-stack.result.now c.choose.result c.first-empty-handle.ensures (omega arith) (omega arith) (omega arith) c.shelves-stack.ensures.value c.choose.ensures in
+    let same : c.from_residual.result ≡ c.choose.result = c.from_residual.ensures ∙ sym c.in_err-right.was in
+    let gives = code_gives a w h c.first_empty-handle.result c.shelves-stack.result.now c.choose.result c.first_empty-handle.ensures (omega arith) (omega arith) (omega arith) c.shelves-stack.ensures.value c.choose.ensures in
     record {
       answer = same ∙ gives;
-      after = ap (λ o. shelf_put o (shelved a) w h) (sym c.in-err-right.was ∙ gives);
-      first = subst (TakesFirst (shelved a) w h) (sym same) (code_first a w h c.first-empty-handle.result c.shelves-stack.result.now c.choose.result c.first-empty-handle.ensures (omega arith) (omega arith) (omega arith) c.shelves-stack.ensures.value c.choose.ensures);
+      after = ap (λ o. shelf_put o (shelved a) w h) (sym c.in_err-right.was ∙ gives);
+      first = subst (TakesFirst (shelved a) w h) (sym same) (code_first a w h c.first_empty-handle.result c.shelves-stack.result.now c.choose.result c.first_empty-handle.ensures (omega arith) (omega arith) (omega arith) c.shelves-stack.ensures.value c.choose.ensures);
     }
 
-pub overflow-cast-x : goal.overflow-cast-x
-overflow-cast-x c =
-    let p = code_inside c.args.self.now c.args.width c.args.height c.first-empty-handle.result c.shelves-stack.result.now c.choose.result c.first-empty-handle.ensures (omega arith) (omega arith) (omega arith) c.shelves-stack.ensures.value c.choose.ensures c.in-ok-right.right c.in-ok-right.down c.in-ok-right.was in
+pub overflow_cast-x : goal.overflow_cast-x
+overflow_cast-x c =
+    let p = code_inside c.args.self.now c.args.width c.args.height c.first_empty-handle.result c.shelves-stack.result.now c.choose.result c.first_empty-handle.ensures (omega arith) (omega arith) (omega arith) c.shelves-stack.ensures.value c.choose.ensures c.in_ok-right.right c.in_ok-right.down c.in_ok-right.was in
     omega (arith, p.0)
 
-pub overflow-cast-y : goal.overflow-cast-y
-overflow-cast-y c =
-    let p = code_inside c.args.self.now c.args.width c.args.height c.first-empty-handle.result c.shelves-stack.result.now c.choose.result c.first-empty-handle.ensures (omega arith) (omega arith) (omega arith) c.shelves-stack.ensures.value c.choose.ensures c.in-ok-right.right c.in-ok-right.down c.in-ok-right.was in
+pub overflow_cast-y : goal.overflow_cast-y
+overflow_cast-y c =
+    let p = code_inside c.args.self.now c.args.width c.args.height c.first_empty-handle.result c.shelves-stack.result.now c.choose.result c.first_empty-handle.ensures (omega arith) (omega arith) (omega arith) c.shelves-stack.ensures.value c.choose.ensures c.in_ok-right.right c.in_ok-right.down c.in_ok-right.was in
     omega (arith, p.1)
 
 pub open-requires : goal.open-requires
-open-requires c = code_open c.args.self.now c.args.width c.args.height c.first-empty-handle.result c.shelves-stack.result.now c.choose.result c.first-empty-handle.ensures (omega arith) (omega arith) (omega arith) c.shelves-stack.ensures.value c.choose.ensures c.in-ok-right.right c.in-ok-right.down c.in-ok-right.was c.bottom-bottom.result c.bottom-bottom.ensures.is c.if-down-bottom.true
+open-requires c = code_open c.args.self.now c.args.width c.args.height c.first_empty-handle.result c.shelves-stack.result.now c.choose.result c.first_empty-handle.ensures (omega arith) (omega arith) (omega arith) c.shelves-stack.ensures.value c.choose.ensures c.in_ok-right.right c.in_ok-right.down c.in_ok-right.was c.bottom-bottom.result c.bottom-bottom.ensures.is c.if-down-bottom.true
 
 pub put-requires : goal.put-requires
-put-requires c = code_put c.args.self.now c.args.width c.args.height c.first-empty-handle.result c.shelves-stack.result.now c.choose.result c.first-empty-handle.ensures (omega arith) (omega arith) (omega arith) c.shelves-stack.ensures.value c.choose.ensures c.in-ok-right.right c.in-ok-right.down c.in-ok-right.was c.bottom-bottom.result c.bottom-bottom.ensures.is c.if-down-bottom.false
+put-requires c = code_put c.args.self.now c.args.width c.args.height c.first_empty-handle.result c.shelves-stack.result.now c.choose.result c.first_empty-handle.ensures (omega arith) (omega arith) (omega arith) c.shelves-stack.ensures.value c.choose.ensures c.in_ok-right.right c.in_ok-right.down c.in_ok-right.was c.bottom-bottom.result c.bottom-bottom.ensures.is c.if-down-bottom.false
 
 pub returns-then-down-bottom : goal.returns-then-down-bottom
 returns-then-down-bottom c =
     let a = c.args.self.now in
     let w = c.args.width in
     let h = c.args.height in
-    let was = c.in-ok-right.was in
+    let was = c.in_ok-right.was in
     record {
-      answer = sym was ∙ code_gives a w h c.first-empty-handle.result c.shelves-stack.result.now c.choose.result c.first-empty-handle.ensures (omega arith) (omega arith) (omega arith) c.shelves-stack.ensures.value c.choose.ensures;
-      after = c.open.ensures ∙ opened a w h c.first-empty-handle.result c.shelves-stack.result.now c.choose.result c.first-empty-handle.ensures (omega arith) (omega arith) (omega arith) c.shelves-stack.ensures.value c.choose.ensures c.in-ok-right.right c.in-ok-right.down was c.bottom-bottom.result c.bottom-bottom.ensures.is c.if-down-bottom.true;
-      first = subst (TakesFirst (shelved a) w h) was (code_first a w h c.first-empty-handle.result c.shelves-stack.result.now c.choose.result c.first-empty-handle.ensures (omega arith) (omega arith) (omega arith) c.shelves-stack.ensures.value c.choose.ensures);
+      answer = sym was ∙ code_gives a w h c.first_empty-handle.result c.shelves-stack.result.now c.choose.result c.first_empty-handle.ensures (omega arith) (omega arith) (omega arith) c.shelves-stack.ensures.value c.choose.ensures;
+      after = c.open.ensures ∙ opened a w h c.first_empty-handle.result c.shelves-stack.result.now c.choose.result c.first_empty-handle.ensures (omega arith) (omega arith) (omega arith) c.shelves-stack.ensures.value c.choose.ensures c.in_ok-right.right c.in_ok-right.down was c.bottom-bottom.result c.bottom-bottom.ensures.is c.if-down-bottom.true;
+      first = subst (TakesFirst (shelved a) w h) was (code_first a w h c.first_empty-handle.result c.shelves-stack.result.now c.choose.result c.first_empty-handle.ensures (omega arith) (omega arith) (omega arith) c.shelves-stack.ensures.value c.choose.ensures);
     }
 
 pub returns-else-down-bottom : goal.returns-else-down-bottom
@@ -51,9 +51,9 @@ returns-else-down-bottom c =
     let a = c.args.self.now in
     let w = c.args.width in
     let h = c.args.height in
-    let was = c.in-ok-right.was in
+    let was = c.in_ok-right.was in
     record {
-      answer = sym was ∙ code_gives a w h c.first-empty-handle.result c.shelves-stack.result.now c.choose.result c.first-empty-handle.ensures (omega arith) (omega arith) (omega arith) c.shelves-stack.ensures.value c.choose.ensures;
-      after = c.put.ensures ∙ set_down a w h c.first-empty-handle.result c.shelves-stack.result.now c.choose.result c.first-empty-handle.ensures (omega arith) (omega arith) (omega arith) c.shelves-stack.ensures.value c.choose.ensures c.in-ok-right.right c.in-ok-right.down was c.bottom-bottom.result c.bottom-bottom.ensures.is c.if-down-bottom.false;
-      first = subst (TakesFirst (shelved a) w h) was (code_first a w h c.first-empty-handle.result c.shelves-stack.result.now c.choose.result c.first-empty-handle.ensures (omega arith) (omega arith) (omega arith) c.shelves-stack.ensures.value c.choose.ensures);
+      answer = sym was ∙ code_gives a w h c.first_empty-handle.result c.shelves-stack.result.now c.choose.result c.first_empty-handle.ensures (omega arith) (omega arith) (omega arith) c.shelves-stack.ensures.value c.choose.ensures;
+      after = c.put.ensures ∙ set_down a w h c.first_empty-handle.result c.shelves-stack.result.now c.choose.result c.first_empty-handle.ensures (omega arith) (omega arith) (omega arith) c.shelves-stack.ensures.value c.choose.ensures c.in_ok-right.right c.in_ok-right.down was c.bottom-bottom.result c.bottom-bottom.ensures.is c.if-down-bottom.false;
+      first = subst (TakesFirst (shelved a) w h) was (code_first a w h c.first_empty-handle.result c.shelves-stack.result.now c.choose.result c.first_empty-handle.ensures (omega arith) (omega arith) (omega arith) c.shelves-stack.ensures.value c.choose.ensures);
     }

@@ -6,8 +6,8 @@ use Rattle.atlas.specs.ShelfLaw.{emptied_sound}
 use Rattle.atlas.specs.ShelfCode.{state_sound, code_few, code_shelves}
 use Rattle.atlas.proofs.shelf_atlas.ShelfAtlas.clear.Goals as goal
 
-pub invariant-of-self : goal.invariant-of-self
-invariant-of-self c =
+pub invariant_of-self : goal.invariant_of-self
+invariant_of-self c =
     let a = c.args.self.now in
     let V = emptied_sound (shelved a) (state_sound a) c.args.handle in
     let us = set a.slots c.args.handle None in
@@ -15,7 +15,7 @@ invariant-of-self c =
     let d = ap depth e in
     let k = V.within in
     let few = code_few a c.args.handle c.standing-count.result c.shelves.result.now c.shelves.ensures.value c.standing-count.ensures in
-    (V.small, (V.whole, (V.lies, (V.separate, (a.room, (few, (ap all_tall e ∙ V.tall, (omega arith, (ap (λ t. all_stand t us) e ∙ V.held, (ap (standing us 0) e ∙ V.trim ∙ ap length (sym e), tt))))))))))
+    record { small = V.small; whole = V.whole; lies = V.lies; separate = V.separate; room = a.room; few = few; tall = ap all_tall e ∙ V.tall; within = omega arith; held = ap (λ t. all_stand t us) e ∙ V.held; trim = ap (standing us 0) e ∙ V.trim ∙ ap length (sym e) }
 
 pub returns : goal.returns
 returns c =

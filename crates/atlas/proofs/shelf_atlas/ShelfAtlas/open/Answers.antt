@@ -4,8 +4,8 @@ use Rattle.std.proofs.lemmas.List.{take_more_set}
 use Rattle.atlas.specs.Shelf.{Shelved, all_tall, depth, all_stand, standing}
 use Rattle.atlas.proofs.shelf_atlas.ShelfAtlas.open.Goals as goal
 
-pub invariant-of-self : goal.invariant-of-self
-invariant-of-self c =
+pub invariant_of-self : goal.invariant_of-self
+invariant_of-self c =
     let a = c.args.self.now in
     let V = c.requires.1.1 in
     let ss = set a.slots c.args.handle (Some c.args.picture) in
@@ -13,7 +13,7 @@ invariant-of-self c =
     let e = take_more_set a.heights a.count c.args.picture.height l in
     let d = ap depth e in
     let k = V.within in
-    (V.small, (V.whole, (V.lies, (V.separate, (length-set a.heights a.count _ ∙ a.room, (omega arith, (ap all_tall e ∙ V.tall, (omega arith, (ap (λ t. all_stand t ss) e ∙ V.held, (ap (standing ss 0) e ∙ V.trim ∙ ap length (sym e), tt))))))))))
+    record { small = V.small; whole = V.whole; lies = V.lies; separate = V.separate; room = length-set a.heights a.count _ ∙ a.room; few = omega arith; tall = ap all_tall e ∙ V.tall; within = omega arith; held = ap (λ t. all_stand t ss) e ∙ V.held; trim = ap (standing ss 0) e ∙ V.trim ∙ ap length (sym e) }
 
 pub returns : goal.returns
 returns c =

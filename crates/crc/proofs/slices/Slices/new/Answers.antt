@@ -7,5 +7,5 @@ loop-k-preserved c =
       simp length-set c.loop-k.invariant.0,
       below_more _ _
           (λ i h. let ne : i ≢ c.loop-k.k = omega arith in rw get_or-set_other (c.loop-k.invariant.1 i h))
-          (rw get_or-set_same c.next-entry.ensures),
+          (rw get_or-set_same c.next_entry.ensures),
     )

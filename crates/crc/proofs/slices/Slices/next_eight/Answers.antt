@@ -6,9 +6,9 @@ use Rattle.crc.proofs.slices.Slices.next_eight.Goals as goal
 pub returns : goal.returns
 returns c =
     let b = c.args.b.now in
-    let x = c.to-le-bytes-x.ensures in
+    let x = c.to_le_bytes-x.ensures in
     let long : length b ≡ 8 = omega arith in
-    spread c.args.state c.from-le-bytes.result b long c.fits-b (omega arith) c.from-le-bytes.ensures _ _ _ _ _ _ _ _
+    spread c.args.state c.from_le_bytes.result b long c.fits-b (omega arith) c.from_le_bytes.ensures _ _ _ _ _ _ _ _
     (c.at.ensures ∙ ap (λ l. followed 7 (get_or l 0 0)) x)
     (c.at-2.ensures ∙ ap (λ l. followed 6 (get_or l 1 0)) x)
     (c.at-3.ensures ∙ ap (λ l. followed 5 (get_or l 2 0)) x)

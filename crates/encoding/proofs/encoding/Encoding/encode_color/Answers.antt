@@ -4,17 +4,8 @@ use Rattle.encoding.proofs.Sounds.{sound}
 use Rattle.encoding.proofs.Kept.{patched_longer, recorded_longer}
 use Rattle.encoding.proofs.encoding.Encoding.encode_color.Goals as goal
 
-pub invariant-of-self : goal.invariant-of-self
-invariant-of-self c =
+pub invariant_of-self : goal.invariant_of-self
+invariant_of-self c =
     let s = c.args.self.now in
     let a = c.push.ensures.len in
-    let b = c.push-2.ensures.len in (
-      s.few,
-      (
-        patched_longer (meaning s) (sound s) (omega (arith, b)) (omega arith),
-        (
-          s.turned,
-          (recorded_longer (meaning s) (sound s) (omega arith) (omega arith) (omega (arith, a)) (omega (arith, b)) (omega arith) (omega arith), tt),
-        ),
-      ),
-    )
+    let b = c.push-2.ensures.len in record { few = s.few; patched = patched_longer (meaning s) (sound s) (omega (arith, b)) (omega arith); turned = s.turned; recorded = recorded_longer (meaning s) (sound s) (omega arith) (omega arith) (omega (arith, a)) (omega (arith, b)) (omega arith) (omega arith) }

@@ -11,6 +11,6 @@ returns c =
     let few : n ≤ 32 = omega arith in
     let some : 1 ≤ n = omega arith in
     record {
-      test = rw (le-leb 1 n some, le-leb n 32 few) c.if-not-are-name-bytes.ensures;
-      held = ap₂ ◌++◌ c.copy-from-slice.ensures.after (ap (λ k. drop k (replicate 32 0)) (sub-zero n) ∙ drop-replicate n 32 0);
+      test = rw (le-leb 1 n some, le-leb n 32 few) c.if-not-are_name_bytes.ensures;
+      held = ap₂ ◌++◌ c.copy_from_slice.ensures.after (ap (λ k. drop k (replicate 32 0)) (sub-zero n) ∙ drop-replicate n 32 0);
     }

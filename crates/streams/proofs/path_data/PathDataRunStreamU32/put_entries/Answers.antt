@@ -1,6 +1,6 @@
 use Rattle.std.proofs.Common.{refl, arith}
-use Rattle.bytes.specs.Bytes.{word_bytes}
-use Rattle.bytes.proofs.Splice.{length_joined}
+use Rattle.byte_writers.specs.Bytes.{word_bytes}
+use Rattle.byte_writers.proofs.Splice.{length_joined}
 use Rattle.streams.proofs.path_data.PathDataRunStreamU32.put_entries.Goals as goal
 
 pub put-words-at-requires : goal.put-words-at-requires

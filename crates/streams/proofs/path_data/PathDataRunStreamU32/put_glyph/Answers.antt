@@ -1,7 +1,7 @@
 use Rattle.std.proofs.Common.{length, refl, ap, arith}
-use Rattle.bytes.specs.Bytes.{word_bytes, words_bytes}
-use Rattle.bytes.proofs.Splice.{length_joined}
-use Rattle.bytes.proofs.Joins.{put_as}
+use Rattle.byte_writers.specs.Bytes.{word_bytes, words_bytes}
+use Rattle.byte_writers.proofs.Splice.{length_joined}
+use Rattle.byte_writers.proofs.Joins.{put_as}
 use Rattle.supply.specs.Meaning.{Shape}
 use Rattle.streams.proofs.path_data.PathDataRunStreamU32.put_glyph.Goals as goal
 

@@ -1,5 +1,5 @@
 use Rattle.std.proofs.Common.{length, sym, ap, arith}
-use Rattle.bytes.proofs.Joins.{joined_bytes, put_as}
+use Rattle.byte_writers.proofs.Joins.{joined_bytes, put_as}
 use Rattle.streams.proofs.path_tags.PathTagsRunStreamU8.put_entries.Goals as goal
 
 pub put-bytes-at-requires : goal.put-bytes-at-requires

@@ -1,7 +1,7 @@
 use Rattle.std.proofs.Common.{◌∷◌, length, sym, ap, ◌∙◌, arith}
-use Rattle.bytes.specs.Bytes.{byte}
+use Rattle.byte_writers.specs.Bytes.{byte}
 use Rattle.std.specs.List.{flat_map}
-use Rattle.bytes.proofs.Joins.{joined_bytes, put_then, put_as}
+use Rattle.byte_writers.proofs.Joins.{joined_bytes, put_then, put_as}
 use Rattle.supply.specs.Meaning.{Shape}
 use Rattle.streams.proofs.path_tags.PathTagsRunStreamU8.put_glyph.Goals as goal
 

@@ -1,4 +1,4 @@
-use Rattle.bytes.proofs.Joins.{none_put}
+use Rattle.byte_writers.proofs.Joins.{none_put}
 use Rattle.streams.proofs.styles.StylesRunStreamStyle.put_close.Goals as goal
 
 pub returns : goal.returns

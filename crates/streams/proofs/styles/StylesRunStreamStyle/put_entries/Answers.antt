@@ -1,5 +1,5 @@
 use Rattle.std.proofs.Common.{refl, arith}
-use Rattle.bytes.proofs.Splice.{length_joined}
+use Rattle.byte_writers.proofs.Splice.{length_joined}
 use Rattle.streams.specs.Kinds.{style_bytes}
 use Rattle.streams.proofs.styles.StylesRunStreamStyle.put_entries.Goals as goal
 

@@ -1,7 +1,7 @@
 use Rattle.std.proofs.Common.{length, refl, ap, arith}
 use Rattle.std.specs.List.{flat_map}
-use Rattle.bytes.proofs.Splice.{length_joined}
-use Rattle.bytes.proofs.Joins.{put_as}
+use Rattle.byte_writers.proofs.Splice.{length_joined}
+use Rattle.byte_writers.proofs.Joins.{put_as}
 use Rattle.supply.specs.Meaning.{Shape}
 use Rattle.streams.specs.Kinds.{style_bytes}
 use Rattle.streams.proofs.styles.StylesRunStreamStyle.put_glyph.Goals as goal

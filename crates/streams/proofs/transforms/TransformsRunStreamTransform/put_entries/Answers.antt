@@ -1,6 +1,6 @@
 use Rattle.std.proofs.Common.{refl, arith}
-use Rattle.bytes.specs.Bytes.{transform_bytes}
-use Rattle.bytes.proofs.Splice.{length_joined}
+use Rattle.byte_writers.specs.Bytes.{transform_bytes}
+use Rattle.byte_writers.proofs.Splice.{length_joined}
 use Rattle.streams.proofs.transforms.TransformsRunStreamTransform.put_entries.Goals as goal
 
 pub put-transforms-at-requires : goal.put-transforms-at-requires
