@@ -5,7 +5,7 @@ use Rattle.commands.proofs.Taken.{Sofar}
 use Rattle.commands.proofs.lists.list.Given as goal
 
 abbrev pub invariant-loop-part : goal.invariant-loop-part
-invariant-loop-part g l = Sofar g.T-as-Value.reads (entries_of l.text) (vec_items l.out) (left l.parts)
+invariant-loop-part g l = Sofar g.T.Value.reads (entries_of l.text) (vec_items l.out) (left l.parts)
 
 abbrev pub decreases-loop-part : goal.decreases-loop-part
 decreases-loop-part g l = length (left l.parts)

@@ -7,7 +7,7 @@ use Rattle.page.specs.Nothing.{no_late}
 use Rattle.page.proofs.plain.resolve_solid_paths_only.Goals as goal
 
 -- no patch owns a word
-pub pack-page-requires : goal.pack-page-requires
-pack-page-requires c =
-    let e = nil_from_length c.patches.result.now (eqb-true _ _ (sym c.if-not-is-empty.ensures)) in
+pub pack_page-requires : goal.pack_page-requires
+pack_page-requires c =
+    let e = nil_from_length c.patches.result.now (eqb-true _ _ (sym c.if-not-is_empty.ensures)) in
     subst (λ (ps : List Patch). Owned no_late 0 ps) (sym e ∙ c.patches.ensures) tt

@@ -10,50 +10,50 @@ use Rattle.page.proofs.Kept.{tags_kept, inside_kept}
 use Rattle.page.proofs.Lengths.{le_padded, closed_long}
 use Rattle.page.proofs.writers.put_path_tags.Goals as goal
 
-pub put-stream-end-requires : goal.put-stream-end-requires
-put-stream-end-requires g c =
+pub put_stream-end-requires : goal.put_stream-end-requires
+put_stream-end-requires g c =
     let m = g.G.GlyphSupply.meaning c.args.supply.now in
     let s = viewed c.args.scene in
     let h = c.requires.sound in
     let p = le_padded (stream_count (tags_kind m) (length s.path_tags) s.glyphs s.runs + s.open_clips) in
     record { cuts = tags_kept s h m; inside = inside_kept s h; space = omega (arith, c.requires.space) }
 
-pub put-fill-at-closed-requires : goal.put-fill-at-closed-requires
-put-fill-at-closed-requires g c =
+pub put_fill_at-closed-requires : goal.put_fill_at-closed-requires
+put_fill_at-closed-requires g c =
     let m = g.G.GlyphSupply.meaning c.args.supply.now in
     let s = viewed c.args.scene in
     let p = le_padded (stream_count (tags_kind m) (length s.path_tags) s.glyphs s.runs + s.open_clips) in
     let n = stream_size (tags_kind m) s.path_tags s.glyphs s.runs (tags_kept s c.requires.sound m) in
-    omega (arith, c.requires.space, c.put-stream-end.ensures.size)
+    omega (arith, c.requires.space, c.put_stream-end.ensures.size)
 
-pub overflow-add-padded : goal.overflow-add-padded
-overflow-add-padded g c =
+pub overflow_add-padded : goal.overflow_add-padded
+overflow_add-padded g c =
     let m = g.G.GlyphSupply.meaning c.args.supply.now in
     let s = viewed c.args.scene in
     let n = stream_size (tags_kind m) s.path_tags s.glyphs s.runs (tags_kept s c.requires.sound m) in
     let r = length-replicate {A = ℕ} s.open_clips 0x10 in
-    let e = c.put-stream-end.ensures.size in
-    let f = c.put-fill-at-closed.ensures.size in
+    let e = c.put_stream-end.ensures.size in
+    let f = c.put_fill_at-closed.ensures.size in
     omega (arith, c.requires.space)
 
-pub overflow-mul-padded : goal.overflow-mul-padded
-overflow-mul-padded g c =
+pub overflow_mul-padded : goal.overflow_mul-padded
+overflow_mul-padded g c =
     let m = g.G.GlyphSupply.meaning c.args.supply.now in
     let s = viewed c.args.scene in
     let n = stream_size (tags_kind m) s.path_tags s.glyphs s.runs (tags_kept s c.requires.sound m) in
     let r = length-replicate {A = ℕ} s.open_clips 0x10 in
-    let e = c.put-stream-end.ensures.size in
-    let f = c.put-fill-at-closed.ensures.size in
+    let e = c.put_stream-end.ensures.size in
+    let f = c.put_fill_at-closed.ensures.size in
     omega (arith, c.requires.space)
 
-pub put-fill-at-requires : goal.put-fill-at-requires
-put-fill-at-requires g c =
+pub put_fill_at-requires : goal.put_fill_at-requires
+put_fill_at-requires g c =
     let m = g.G.GlyphSupply.meaning c.args.supply.now in
     let s = viewed c.args.scene in
     let n = stream_size (tags_kind m) s.path_tags s.glyphs s.runs (tags_kept s c.requires.sound m) in
     let r = length-replicate {A = ℕ} s.open_clips 0x10 in
-    let e = c.put-stream-end.ensures.size in
-    let f = c.put-fill-at-closed.ensures.size in
+    let e = c.put_stream-end.ensures.size in
+    let f = c.put_fill_at-closed.ensures.size in
     omega (arith, c.requires.space)
 
 pub returns : goal.returns
@@ -62,13 +62,13 @@ returns g c =
     let s = viewed c.args.scene in
     let n = stream_size (tags_kind m) s.path_tags s.glyphs s.runs (tags_kept s c.requires.sound m) in
     let r = length-replicate {A = ℕ} s.open_clips 0x10 in
-    let e = c.put-stream-end.ensures.size in
-    let f = c.put-fill-at-closed.ensures.size in
+    let e = c.put_stream-end.ensures.size in
+    let f = c.put_fill_at-closed.ensures.size in
     let l = closed_long m s c.requires.sound in
-    let q : c.put-fill-at-closed.result ≡ length (closed_tags m s) = omega arith in
+    let q : c.put_fill_at-closed.result ≡ length (closed_tags m s) = omega arith in
     put_as
     (ap (λ k. closed_tags m s ++ replicate (padded k - k) 0) q)
     (put_then (omega arith)
     (put_as (ap (λ v. v ++ replicate s.open_clips 0x10) (joined_bytes (stream_of (tags_kind m) s.path_tags s.glyphs s.runs)))
-    (put_then (omega arith) c.put-stream-end.ensures c.put-fill-at-closed.ensures))
-    c.put-fill-at.ensures)
+    (put_then (omega arith) c.put_stream-end.ensures c.put_fill_at-closed.ensures))
+    c.put_fill_at.ensures)

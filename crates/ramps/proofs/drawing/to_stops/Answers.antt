@@ -9,10 +9,10 @@ loop-i-preserved c =
     let xs = c.loop-i.stops in
     let i = c.loop-i.i in
     let ks = c.args.key.now in
-    let x = c.to-stop.result in (
+    let x = c.to_stop.result in (
       length-set xs i x ∙ c.loop-i.invariant.0,
       take_more_set xs i x (omega arith) ∙ ap (λ zs. zs ++ x ∷ []) c.loop-i.invariant.1
-          ∙ ap (λ z. map stop_of (take i ks) ++ z ∷ []) c.to-stop.ensures ∙ sym (map_more stop_of ks i no_stop c.loop-i-test.true),
+          ∙ ap (λ z. map stop_of (take i ks) ++ z ∷ []) c.to_stop.ensures ∙ sym (map_more stop_of ks i no_stop c.loop-i-test.true),
     )
 
 pub returns : goal.returns

@@ -15,8 +15,8 @@ loop-i-preserved g c =
     let b = glyphs_more (data_kind m) i gs r no_glyph c.loop-i-test.true in
     let d = glyphs_more (transforms_kind m) i gs r no_glyph c.loop-i-test.true in
     let e = glyphs_more (styles_kind m) i gs r no_glyph c.loop-i-test.true in
-    let v = c.outline-of-outline.ensures.value in
-    let s = c.outline-of-outline.ensures.short in
+    let v = c.outline_of-outline.ensures.value in
+    let s = c.outline_of-outline.ensures.short in
     let p = ap (λ (o : Shape). length o.tags) v in
     let q = ap (λ (o : Shape). length o.words) v in
     let w = ap (λ (o : Shape). length o.styles) v in
@@ -29,7 +29,7 @@ returns g c =
     let r = c.args.run.now in
     let i = c.loop-i.i in
     let v = c.loop-i.invariant in
-    let t = c.if-not-has-session.ensures in
+    let t = c.if-not-has_session.ensures in
     record {
       value = same_inserted (v.0 ∙ ap (λ b. cond b 1 0) t)
           (glyphs_all (tags_kind m) i gs r _ v.1 c.loop-i-test.false t) (glyphs_all (data_kind m) i gs r _ v.2 c.loop-i-test.false t)

@@ -28,8 +28,8 @@ returns-then-not-session g c =
 pub loop-i-init : goal.loop-i-init
 loop-i-init g c = filled_as (sym (append-nil _)) (start_at c.args.out.now c.args.at (omega arith))
 
-pub put-glyph-next-requires : goal.put-glyph-next-requires
-put-glyph-next-requires g c =
+pub put_glyph-next-requires : goal.put_glyph-next-requires
+put_glyph-next-requires g c =
     let K = g.S.RunStream.kind c.args.stream.now in
     let r = c.args.run.now in
     let f : Glyph → List ℕ = λ x. flat_map K.bytes (K.each r x) in
@@ -46,10 +46,10 @@ loop-i-preserved g c =
     let r = c.args.run.now in
     let f : Glyph → List ℕ = λ x. flat_map K.bytes (K.each r x) in
     let P = take c.args.at c.args.out.now in
-    more f P c.args.glyphs.now c.loop-i.i c.loop-i.invariant no_glyph c.loop-i-test.true c.put-glyph-next.ensures
+    more f P c.args.glyphs.now c.loop-i.i c.loop-i.invariant no_glyph c.loop-i-test.true c.put_glyph-next.ensures
 
-pub put-close-requires : goal.put-close-requires
-put-close-requires g c =
+pub put_close-requires : goal.put_close-requires
+put_close-requires g c =
     let K = g.S.RunStream.kind c.args.stream.now in
     let r = c.args.run.now in
     let f : Glyph → List ℕ = λ x. flat_map K.bytes (K.each r x) in
@@ -70,5 +70,5 @@ returns g c =
     let w = with_session K c.args.glyphs.now r c.if-not-session.ensures in
     let n = ap length w ∙ length-append (flat_map f c.args.glyphs.now) (flat_map K.bytes (K.close r)) in
     let l = length-take-le c.args.at c.args.out.now (omega arith) in
-    let h = puts (whole f P c.args.glyphs.now c.loop-i.i c.loop-i.invariant c.loop-i-test.false) c.put-close.ensures in
+    let h = puts (whole f P c.args.glyphs.now c.loop-i.i c.loop-i.invariant c.loop-i-test.false) c.put_close.ensures in
     put_from _ l (filled_as (append_assoc P (flat_map f c.args.glyphs.now) (flat_map K.bytes (K.close r)) ∙ ap (λ q. P ++ q) (sym w)) h)

@@ -5,7 +5,7 @@ use Rattle.streams.proofs.styles.put_styles.Goals as goal
 
 pub loop-i-preserved : goal.loop-i-preserved
 loop-i-preserved c =
-    record_more style_bytes 8 (λ x. refl) c.args.out.now c.loop-i.out c.args.styles.now c.loop-i.i c.loop-i.invariant _ c.put-words.new.out _ c.loop-i-test.true c.put-words.ensures (omega arith)
+    record_more style_bytes 8 (λ x. refl) c.args.out.now c.loop-i.out c.args.styles.now c.loop-i.i c.loop-i.invariant _ c.put_words.new.out _ c.loop-i-test.true c.put_words.ensures (omega arith)
 
 pub returns : goal.returns
 returns c =

@@ -7,4 +7,4 @@ use Rattle.streams.proofs.styles.put_styles_at.Goals as goal
 
 pub returns : goal.returns
 returns c =
-    put_part (flat_map style_bytes c.args.styles.now) (ap (λ k. c.args.at + k) (sym (length_joined style_bytes 8 (λ x. refl) c.args.styles.now))) c.put-styles.ensures
+    put_part (flat_map style_bytes c.args.styles.now) (ap (λ k. c.args.at + k) (sym (length_joined style_bytes 8 (λ x. refl) c.args.styles.now))) c.put_styles.ensures

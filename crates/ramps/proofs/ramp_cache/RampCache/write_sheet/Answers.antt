@@ -13,9 +13,9 @@ pub returns : goal.returns
 returns c =
     let rs = rows_in c.args.self.now in
     let words = c.ramps.result.data.now in
-    let front = c.copy-from-slice.new.self in
+    let front = c.copy_from_slice.new.self in
     let back = c.fill.new.self in
-    let e : front ≡ words = c.copy-from-slice.ensures.after in
+    let e : front ≡ words = c.copy_from_slice.ensures.after in
     let n : length words ≡ 512 * length rs = ap length c.ramps.ensures.samples ∙ length_joined rs in
     let l : length front ≡ length words = ap length e in
     let z = as_many _ (49152 - 512 * length rs) (c.fill.ensures.after (λ y q. q)) (simp (length-take, length-drop, length-append) (omega arith)) in

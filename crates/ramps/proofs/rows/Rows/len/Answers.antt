@@ -6,7 +6,7 @@ use Rattle.ramps.proofs.rows.Rows.len.Goals as goal
 pub returns : goal.returns
 returns c =
     record {
-      value = sym (length-map _ row_of) ∙ ap length c.as-slice.ensures.items;
-      len = c.as-slice.ensures.len;
+      value = sym (length-map _ row_of) ∙ ap length c.as_slice.ensures.items;
+      len = c.as_slice.ensures.len;
       few = omega arith;
     }

@@ -5,9 +5,9 @@ use Rattle.byte_writers.proofs.Joins.{put_as}
 use Rattle.supply.specs.Meaning.{Shape}
 use Rattle.streams.proofs.path_data.PathDataRunStreamU32.put_glyph.Goals as goal
 
-pub put-words-at-requires : goal.put-words-at-requires
-put-words-at-requires g c =
-    omega (arith, ap (λ (s : Shape). length (words_bytes s.words)) c.outline-of.ensures.value, length_joined word_bytes 4 (λ x. refl) c.outline-of.result.words.now)
+pub put_words_at-requires : goal.put_words_at-requires
+put_words_at-requires g c =
+    omega (arith, ap (λ (s : Shape). length (words_bytes s.words)) c.outline_of.ensures.value, length_joined word_bytes 4 (λ x. refl) c.outline_of.result.words.now)
 
 pub returns : goal.returns
-returns g c = put_as (ap (λ (s : Shape). words_bytes s.words) c.outline-of.ensures.value) c.put-words-at.ensures
+returns g c = put_as (ap (λ (s : Shape). words_bytes s.words) c.outline_of.ensures.value) c.put_words_at.ensures

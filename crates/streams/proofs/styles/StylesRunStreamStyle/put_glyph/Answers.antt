@@ -6,9 +6,9 @@ use Rattle.supply.specs.Meaning.{Shape}
 use Rattle.streams.specs.Kinds.{style_bytes}
 use Rattle.streams.proofs.styles.StylesRunStreamStyle.put_glyph.Goals as goal
 
-pub put-styles-at-requires : goal.put-styles-at-requires
-put-styles-at-requires g c =
-    omega (arith, ap (λ (s : Shape). length (flat_map style_bytes s.styles)) c.outline-of.ensures.value, length_joined style_bytes 8 (λ x. refl) c.outline-of.result.styles.now)
+pub put_styles_at-requires : goal.put_styles_at-requires
+put_styles_at-requires g c =
+    omega (arith, ap (λ (s : Shape). length (flat_map style_bytes s.styles)) c.outline_of.ensures.value, length_joined style_bytes 8 (λ x. refl) c.outline_of.result.styles.now)
 
 pub returns : goal.returns
-returns g c = put_as (ap (λ (s : Shape). flat_map style_bytes s.styles) c.outline-of.ensures.value) c.put-styles-at.ensures
+returns g c = put_as (ap (λ (s : Shape). flat_map style_bytes s.styles) c.outline_of.ensures.value) c.put_styles_at.ensures
