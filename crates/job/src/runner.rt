@@ -6,7 +6,7 @@ use commands::{
     SceneCommand, Verb, read_only_name, read_only_stream,
 };
 use job_text::{Line, Name};
-use std::alloc::Global;
+use std::alloc::{AllocError, Global};
 use std::fmt;
 use std::fmt::Write;
 
@@ -38,7 +38,7 @@ pub struct Runner<'a> {
     session: Session,
 }
 
-fn said(res: fmt::Result) -> Result<(), Reason> {
+fn said(res: Result<(), AllocError>) -> Result<(), Reason> {
     match res {
         Ok(()) => Ok(()),
         Err(_) => Err(Reason::NoMemory),
