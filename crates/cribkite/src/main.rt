@@ -4,6 +4,7 @@
 use anyhow::anyhow;
 use job::Runner;
 use std::io::Read;
+use std::process::ExitCode;
 use std::{env, fs};
 
 // Output is printed in pieces of about this many bytes.
@@ -24,7 +25,7 @@ fn job_text(rt: &HostRuntime) -> anyhow::Result<Vec<u8>> {
 }
 
 // Prints the answers as they come; a fault goes to standard error and ends the job.
-fn run(rt: &HostRuntime, text: &[u8]) -> anyhow::Result<()> {
+fn run(rt: &HostRuntime, text: &[u8]) -> anyhow::Result<ExitCode> {
     let mut runner = Runner::new(rt.alloc(), text);
     let mut out = String::new(rt.alloc());
     for _ in 0..text.len() {
@@ -33,7 +34,7 @@ fn run(rt: &HostRuntime, text: &[u8]) -> anyhow::Result<()> {
             Err(fault) => {
                 rt.print(out.as_str())?;
                 rt.eprintln(fault)?;
-                return Err(anyhow!("the job has a fault"));
+                return Ok(ExitCode::FAILURE);
             }
         };
         if !more {
@@ -45,13 +46,10 @@ fn run(rt: &HostRuntime, text: &[u8]) -> anyhow::Result<()> {
         }
     }
     rt.print(out.as_str())?;
-    Ok(())
+    Ok(ExitCode::SUCCESS)
 }
 
-fn main(rt: HostRuntime) -> anyhow::Result<()> {
-    let text = match job_text(&rt) {
-        Ok(text) => text,
-        Err(error) => return Err(error),
-    };
+fn main(rt: HostRuntime) -> anyhow::Result<ExitCode> {
+    let text = job_text(&rt)?;
     run(&rt, text.as_slice())
 }
