@@ -10,7 +10,7 @@ import sys
 import tempfile
 
 HERE = os.path.dirname(os.path.abspath(__file__))
-PROGRAM = os.path.join(HERE, "..", "target", "bin", "cribkite")
+PROGRAM = os.path.join(HERE, "..", "crates", "cribkite", "out", "cribkite")
 FLOATS = ["0", "-0", "1", "0.5", "1e-9", "0.1", "3.4028235e38", "-3.4e38", "1e39", "1e-45", "x00000001", "x80000000",
           "x7f800000", "x7fc00001", "nan", "inf", "-inf", "0.3333333333333333333333", "16777217", "1.00000005960464477539"]
 

@@ -1,19 +1,19 @@
 -- The laws of the corner atlas.
-use Rattle.std.specs.Prelude.{◌≡◌, ℕ, ◌+◌, ◌<◌, ◌≤◌, min, true, false, length, replicate, is_some, Some, None, Option, slice_set, refl}
+use Rattle.std.specs.Prelude.{◌≡◌, ℕ, ◌<◌, ◌≤◌, true, false, length, replicate, is_some, Some, None, Option, slice_set, refl}
 use Rattle.std.proofs.Common.{sym, ap, ◌∙◌, subst, ⊎_elim, arith, length-set}
 use Rattle.std.proofs.lemmas.List.{length-replicate, set-get_or}
 use Rattle.std.proofs.lemmas.Bool.{cases_Bool, cond-true, cond-false, both_ways}
 use Rattle.atlas.specs.declared.rect.Rect.{Rect}
 use Rattle.atlas.specs.declared.corner_atlas.CornerAtlas.{CornerAtlas}
 use Rattle.atlas.specs.Rects.{rect}
-use Rattle.atlas.specs.Slots.{Slots, slot, vacant, allowed}
+use Rattle.atlas.specs.Slots.{slot, vacant, allowed}
 use Rattle.atlas.specs.Kind.{AtlasLaws, Free}
 use Rattle.atlas.specs.Corner.{Cornered, CornerSound, corner, corner_gives, corner_put, with_slot, least_place, free_at, Least, TakesLeast}
 use Rattle.atlas.specs.CornerView.{cornered}
 use Rattle.atlas.specs.RectFacts.{missed, apart_missed}
 use Rattle.atlas.specs.Searches.{none_some, none_unless}
 use Rattle.atlas.specs.SlotFacts.{vacant_empty, slot_set, slot_emptied, slot_none, none_vacant, used_few, used_full, clear_at, clear_from, lies_set, separate_at, separate_set, lies_emptied, separate_emptied, lies_none, separate_none, Allowed, allowed_parts, allowed_from}
-use Rattle.atlas.specs.Corners.{FreeAt, free_parts, free_from, First, place_first, nowhere}
+use Rattle.atlas.specs.Corners.{free_parts, free_from, First, place_first, nowhere}
 
 module _ (s : Cornered) (w h : ℕ) where
   -- a free place, as the search tests it and as the law says it

@@ -1,5 +1,5 @@
 -- The code's search for a place, which tries only edges, finds the first free place of all.
-use Rattle.std.specs.Prelude.{◌≡◌, ℕ, ◌+◌, ◌<◌, ◌≤◌, Bool, true, false, cond, not, ◌&&◌, [], ◌∷◌, is_some, Some, None, Option, ◌≢◌, nat_le, refl}
+use Rattle.std.specs.Prelude.{◌≡◌, ℕ, ◌+◌, ◌<◌, ◌≤◌, true, false, [], ◌∷◌, is_some, Some, None, Option, ◌≢◌, nat_le, refl}
 use Rattle.std.proofs.Common.{sym, ap, ◌∙◌, ⊎_elim, arith}
 use Rattle.std.proofs.lemmas.Bool.{cases_lt, cases_Bool, cond-true, cond-false, le-leb, lt-leb, leb-true, and_left, and_right, and_from, and_parts, not_from_true, not_from_false, not-true, both_ways}
 use Rattle.std.proofs.lemmas.Bool.Decides.{nat_tests}
@@ -8,7 +8,7 @@ use Rattle.atlas.specs.Rects.{rect, meets}
 use Rattle.atlas.specs.Slots.{Slots, misses, clear}
 use Rattle.atlas.specs.Search.{past, past_all, nearer, edge_below}
 use Rattle.atlas.specs.Corner.{free_at, place_at, in_row, least_place}
-use Rattle.atlas.specs.RectFacts.{Met, met_parts, met_from}
+use Rattle.atlas.specs.RectFacts.{met_parts, met_from}
 use Rattle.atlas.specs.Searches.{none_some, Found, first_is, first_none, first_found, none_first}
 
 none_is : {X : Type 0} (o : Option X) → is_some o ≡ false → o ≡ None

@@ -1,5 +1,5 @@
 -- Searches: the first number that has something to give, and the steps of the corner atlas from edge to edge.
-use Rattle.std.specs.Prelude.{ℕ, zero, suc, ◌+◌, Bool, cond, ◌&&◌, [], ◌∷◌, Some, None, Option, nat_lt}
+use Rattle.std.specs.Prelude.{ℕ, zero, suc, ◌+◌, cond, ◌&&◌, [], ◌∷◌, Some, None, Option, nat_lt}
 use Rattle.atlas.specs.Rects.{rect, meets}
 use Rattle.atlas.specs.Slots.{Slots}
 use Rattle.atlas.specs.declared.rect.Rect.{Rect}

@@ -1,5 +1,5 @@
 -- Shelves: which picture stands on which, which shelves stay, and where a picture goes.
-use Rattle.std.specs.Prelude.{◌≡◌, ℕ, zero, suc, ◌+◌, ◌<◌, ◌≤◌, max, Bool, true, false, cond, ◌&&◌, ◌||◌, ◌⊎◌, List, [], ◌∷◌, ◌++◌, length, take, drop, is_some, Some, None, Option, ◌==◌, ◌≢◌, nat_le, slice_index, slice_set, refl}
+use Rattle.std.specs.Prelude.{◌≡◌, ℕ, zero, suc, ◌+◌, ◌<◌, ◌≤◌, true, false, cond, ◌&&◌, ◌⊎◌, List, [], ◌∷◌, ◌++◌, length, take, drop, is_some, Some, None, Option, ◌==◌, ◌≢◌, nat_le, slice_index, slice_set, refl}
 use Rattle.std.proofs.Common.{sym, ap, subst, ◌∙◌, inl, inr, ⊎_elim, arith}
 use Rattle.std.proofs.lemmas.List.{take_more, length-take-le, at_drop_more}
 use Rattle.std.proofs.lemmas.Bool.{cases_eq, cases_Bool, cond-true, cond-false, eq-eqb, ne_eqb, eqb-true, leb-true, le-leb, and_parts, and_from, or_cases, or_left, or_right, false≢true}
@@ -7,7 +7,7 @@ use Rattle.atlas.specs.declared.rect.Rect.{Rect}
 use Rattle.atlas.specs.Rects.{rect, Apart}
 use Rattle.atlas.specs.Slots.{Slots, slot}
 use Rattle.atlas.specs.Search.{or_else}
-use Rattle.atlas.specs.Shelf.{depth, reach, furthest, on_shelf, new_shelf, chosen, onto, standing, stands, slot_stands, all_stand, all_tall}
+use Rattle.atlas.specs.Shelf.{depth, reach, furthest, on_shelf, chosen, onto, standing, stands, slot_stands, all_stand, all_tall}
 use Rattle.atlas.specs.Searches.{none_some, none_unless, or_else_some, or_else_none}
 use Rattle.atlas.specs.SlotFacts.{slot_after}
 

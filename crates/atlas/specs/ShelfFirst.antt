@@ -1,15 +1,14 @@
 -- The shelf atlas takes the first shelf that fits, and an empty shelf vanishes when none lies below it.
-use Rattle.std.specs.Prelude.{◌≡◌, ℕ, zero, suc, ◌+◌, ◌<◌, ◌≤◌, true, List, [], ◌∷◌, length, take, is_some, Some, None, Option, slice_index, refl}
+use Rattle.std.specs.Prelude.{◌≡◌, ℕ, zero, suc, ◌+◌, ◌<◌, ◌≤◌, true, List, [], ◌∷◌, length, take, is_some, Some, slice_index, refl}
 use Rattle.std.proofs.Common.{sym, ap, subst, ◌∙◌, ⊎_elim, arith}
 use Rattle.std.proofs.lemmas.List.{length-take-le, take_all}
 use Rattle.std.proofs.lemmas.Bool.{cases_Bool}
 use Rattle.atlas.specs.declared.rect.Rect.{Rect}
 use Rattle.atlas.specs.Slots.{Slots, slot, allowed}
 use Rattle.atlas.specs.Search.{or_else}
-use Rattle.atlas.specs.Shelf.{Shelved, ShelfSound, depth, furthest, on_shelf, new_shelf, chosen, standing, emptied, shelf_gives, shelf_freed, top, Fits, TakesFirst, Bare, Vanished}
-use Rattle.atlas.specs.Searches.{none_some}
+use Rattle.atlas.specs.Shelf.{Shelved, ShelfSound, depth, furthest, new_shelf, chosen, standing, emptied, shelf_gives, shelf_freed, top, Fits, TakesFirst, Bare, Vanished}
 use Rattle.atlas.specs.SlotFacts.{slot_before}
-use Rattle.atlas.specs.ShelfFacts.{furthest_covers, furthest_bare, stand_at, standing_few, standing_gone, standing_end, fit_some, fit_parts, fit_none}
+use Rattle.atlas.specs.ShelfFacts.{furthest_covers, furthest_bare, stand_at, standing_few, standing_gone, standing_end, fit_some, fit_none}
 use Rattle.atlas.specs.ShelfLaw.{gives_when, freed_some, freed_none}
 
 module _ (S : ℕ) (ss : Slots) (w h : ℕ) where

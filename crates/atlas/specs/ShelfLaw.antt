@@ -1,17 +1,17 @@
 -- The laws of the shelf atlas.
-use Rattle.std.specs.Prelude.{◌≡◌, ℕ, ◌+◌, ◌<◌, ◌≤◌, Bool, true, false, cond, List, [], ◌∷◌, ◌++◌, length, take, replicate, is_some, Some, None, Option, ◌==◌, ◌≢◌, slice_set, refl}
-use Rattle.std.proofs.Common.{sym, ap, subst, ◌∙◌, inl, inr, ⊎_elim, arith, length-set, length-append}
+use Rattle.std.specs.Prelude.{◌≡◌, ℕ, ◌+◌, ◌<◌, ◌≤◌, true, false, cond, List, [], ◌∷◌, ◌++◌, length, take, replicate, is_some, Some, None, Option, ◌==◌, ◌≢◌, slice_set, refl}
+use Rattle.std.proofs.Common.{sym, ap, subst, ◌∙◌, inr, ⊎_elim, arith, length-set, length-append}
 use Rattle.std.proofs.lemmas.List.{length-take-le, nil_from_length, length-replicate}
 use Rattle.std.proofs.lemmas.Bool.{cases_eq, cases_Bool, cond-true, cond-false, eq-eqb, ne_eqb}
 use Rattle.atlas.specs.declared.rect.Rect.{Rect}
 use Rattle.atlas.specs.Rects.{rect, Inside, Apart}
 use Rattle.atlas.specs.Slots.{Slots, slot, vacant, allowed}
 use Rattle.atlas.specs.Kind.{AtlasLaws, Free}
-use Rattle.atlas.specs.Shelf.{Shelved, ShelfSound, shelf, shelf_gives, shelf_put, shelf_freed, emptied, put_on, open_with, chosen, standing, stands, depth, furthest}
+use Rattle.atlas.specs.Shelf.{Shelved, ShelfSound, shelf, shelf_gives, shelf_put, shelf_freed, emptied, put_on, open_with, chosen, standing, stands, depth}
 use Rattle.atlas.specs.RectFacts.{missed}
 use Rattle.atlas.specs.Searches.{none_some, none_unless}
 use Rattle.atlas.specs.SlotFacts.{vacant_empty, slot_set, slot_emptied, slot_before, slot_none, none_vacant, used_few, used_full, lies_set, separate_at, separate_set, lies_emptied, separate_emptied, lies_none, separate_none, Allowed, allowed_parts, allowed_from}
-use Rattle.atlas.specs.ShelfFacts.{furthest_covers, furthest_bare, furthest_more, stands_more, stands_last, Stands, stand_at, stand_from, stand_set, tall_push, tall_take, tall_few, depth_push, depth_take, standing_few, standing_take, standing_last, standing_none, standing_more, stands_still, fit_some, Goes, goes, goes_clear}
+use Rattle.atlas.specs.ShelfFacts.{furthest_covers, furthest_bare, furthest_more, stands_more, stands_last, stand_at, stand_from, stand_set, tall_push, tall_take, tall_few, depth_push, depth_take, standing_few, standing_take, standing_last, standing_none, standing_more, stands_still, fit_some, goes, goes_clear}
 
 module _ (s : Shelved) (v : ShelfSound s) where
   abbrev ts : List ℕ

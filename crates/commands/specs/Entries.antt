@@ -1,5 +1,5 @@
 -- A list of entries with a comma between.
-use Rattle.std.specs.Prelude.{◌≡◌, ℕ, ◌<◌, List, [], ◌∷◌, length, Some, None, Option, slice_index_or}
+use Rattle.std.specs.Prelude.{ℕ, ◌<◌, List, [], ◌∷◌, length, Some, None, Option, slice_index_or}
 use Rattle.job_text.specs.Words.{parts_of}
 
 -- an empty text is an empty list

@@ -1,10 +1,9 @@
 -- Eight bytes at a time.
-use Rattle.std.proofs.Common.{◌≡◌, ℕ, ◌+◌, ◌*◌, ◌/◌, ◌%◌, ◌^◌, ◌<◌, List, [], ◌∷◌, map, length, get_or, sym, refl, ap, ◌∙◌, subst, ap₂, arith}
+use Rattle.std.proofs.Common.{◌≡◌, ℕ, ◌+◌, ◌*◌, ◌/◌, ◌%◌, ◌^◌, ◌<◌, List, [], ◌∷◌, length, get_or, sym, refl, ap, ◌∙◌, arith}
 use lib.Bits.{bit_xor, xor_assoc, xor_zero_r, xor_shr, xor_mod}
-use Rattle.std.specs.List.{range_with_len}
 use Rattle.std.proofs.lemmas.List.FromFn.{fill_by_all}
 use Rattle.std.proofs.ByRecursion.{All-from_get_or}
-use Rattle.crc.specs.Crc.{shifts, fed, followed}
+use Rattle.crc.specs.Crc.{fed, followed}
 use Rattle.crc.proofs.Shifts.{peeled, fed_peeled}
 
 -- the byte of s ^ w at bit k

@@ -1,5 +1,5 @@
 -- Shifts respect the exclusive or, and eight of them are one step of the table.
-use Rattle.std.proofs.Common.{◌≡◌, ℕ, zero, suc, ◌+◌, ◌*◌, ◌/◌, ◌%◌, ◌^◌, ◌<◌, List, [], ◌∷◌, length, sym, refl, ap, ◌∙◌, subst, ap₂, add-zero, mod-lt, zero-lt-suc, mul_assoc, suc-add, pow-suc, div-add-mod', zero-add, mul-one, mul-div_cancel, arith}
+use Rattle.std.proofs.Common.{◌≡◌, ℕ, zero, suc, ◌+◌, ◌*◌, ◌/◌, ◌%◌, ◌^◌, ◌<◌, List, [], ◌∷◌, length, sym, refl, ap, ◌∙◌, ap₂, zero-lt-suc, mul_assoc, suc-add, pow-suc, div-add-mod', zero-add, mul-one, mul-div_cancel, arith}
 use native.Mathlib.Nat.{mul-mod_left, div-eq_of_lt}
 use lib.Bits.{bit_xor, xor_comm, xor_assoc, xor_zero_r, xor_shr, xor_mod, xor_shifted}
 use Rattle.std.specs.List.{AllByRecursion as All}

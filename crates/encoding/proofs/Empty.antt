@@ -8,7 +8,7 @@ use Rattle.records.specs.declared.glyph.GlyphRun.{GlyphRun}
 use Rattle.records.specs.declared.glyph.StreamOffsets.{StreamOffsets}
 use Rattle.records.specs.declared.scene.Capacities.{Capacities}
 use Rattle.records.specs.declared.style.Style.{Style}
-use Rattle.encoding.specs.Shape.{Lies, Turns, Rises, Under, start}
+use Rattle.encoding.specs.Shape.{Lies, Turns, Rises, start}
 use Rattle.encoding.specs.Scene.{Scene, Room, empty, limited}
 
 lies_none : (w s : ℕ) → Lies w s 0 []

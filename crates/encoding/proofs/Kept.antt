@@ -1,8 +1,8 @@
 -- What an accepted call leaves true of the lists, from what its steps promise.
-use Rattle.std.proofs.Common.{◌≡◌, ℕ, ◌+◌, ◌<◌, ◌≤◌, List, [], ◌∷◌, ◌++◌, map, length, get_or, Option, sym, refl, ap, ◌∙◌, add_comm, arith}
+use Rattle.std.proofs.Common.{◌≡◌, ℕ, ◌+◌, ◌<◌, ◌≤◌, List, [], ◌∷◌, ◌++◌, map, length, get_or, Option, refl, ◌∙◌, add_comm, arith}
 use mathlib.Core.Logic.{∥∥₁_map, ∥∥₁_map₂}
 use Rattle.math.specs.declared.transform.Transform.{Transform}
-use Rattle.records.specs.Moved.{moved_patch, moved_run, past, SmallPatch, SmallOffsets, SmallRun}
+use Rattle.records.specs.Moved.{moved_patch, moved_run, SmallPatch, SmallOffsets, SmallRun}
 use Rattle.records.specs.declared.patch.Extend.{Extend}
 use Rattle.records.specs.declared.patch.Patch.{Patch}
 use Rattle.records.specs.declared.patch.Patch.TheVariants.{Ramp, GlyphRun as Run, Image}

@@ -1,6 +1,6 @@
 -- Lists of patches, one after the other.
-use Rattle.std.proofs.Common.{◌≡◌, ℕ, zero, suc, ◌+◌, ◌<◌, ◌≤◌, List, [], ◌∷◌, ◌++◌, map, length, get_or, arith}
-use mathlib.Core.Logic.{∥∥₁_map₂, ∥∥₁_elim}
+use Rattle.std.proofs.Common.{ℕ, zero, suc, ◌+◌, ◌<◌, ◌≤◌, List, [], ◌∷◌, ◌++◌, map, length, get_or, arith}
+use mathlib.Core.Logic.{∥∥₁_elim}
 use denote.Struct.Props.{props}
 use Rattle.records.specs.Moved.{moved_patch, SmallPatch}
 use Rattle.records.specs.declared.patch.Patch.{Patch}

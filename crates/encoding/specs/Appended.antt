@@ -1,5 +1,5 @@
 -- The scene after append, and what append asks.
-use Rattle.std.specs.Prelude.{ℕ, ◌+◌, ◌≤◌, Bool, true, ◌&&◌, ◌++◌, map, length, Option, nat_le}
+use Rattle.std.specs.Prelude.{◌+◌, ◌≤◌, Bool, true, ◌&&◌, ◌++◌, map, length, Option, nat_le}
 use Rattle.math.specs.declared.transform.Transform.{Transform}
 use Rattle.records.specs.Finite.{given_finite}
 use Rattle.records.specs.Moved.{under, moved_patch, moved_run}

@@ -1,6 +1,6 @@
 -- The meaning of an encoding: ten lists, four counts and flags; and what room its lists have.
-use Rattle.std.specs.Prelude.{◌≡◌, ℕ, ◌≤◌, min, List, [], length}
-use Rattle.bounded.specs.Held.{items, len}
+use Rattle.std.specs.Prelude.{ℕ, ◌≤◌, min, List, [], length}
+use Rattle.bounded.specs.Held.{items}
 use Rattle.math.specs.declared.transform.Transform.{Transform}
 use Rattle.draw.specs.declared.color.StopBits.{StopBits}
 use Rattle.records.specs.declared.patch.Patch.{Patch}

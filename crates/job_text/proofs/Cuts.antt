@@ -1,5 +1,5 @@
 -- Where a text is cut into its first part and the others.
-use Rattle.std.proofs.Common.{◌≡◌, ℕ, suc, ◌+◌, Bool, true, false, cond, not, eqb, List, [], ◌∷◌, take, drop, refl, ap, ◌∙◌, one-add}
+use Rattle.std.proofs.Common.{◌≡◌, ℕ, ◌+◌, Bool, true, false, cond, not, eqb, List, [], ◌∷◌, take, drop, refl, ap, ◌∙◌, one-add}
 use Rattle.job_text.specs.Words.{up_to, onto, parts_of, past_first}
 use Rattle.job_text.specs.Parts.{left_in}
 

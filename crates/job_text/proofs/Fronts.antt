@@ -1,7 +1,7 @@
 -- A loop that counts how long a front of a list passes a test.
 use Rattle.std.proofs.Common.{◌≡◌, ℕ, ◌+◌, ◌<◌, ◌≤◌, Bool, true, false, List, length, get_or, drop, arith}
 use Rattle.std.specs.List.{prefix_len}
-use Rattle.std.proofs.lemmas.List.Sums.{prefix_len-drop_yes, prefix_len-drop_no, prefix_len-drop_all, prefix_len-le-length}
+use Rattle.std.proofs.lemmas.List.Sums.{prefix_len-drop_yes, prefix_len-drop_no, prefix_len-drop_all}
 
 module _ (p : ℕ → Bool) (xs : List ℕ) (i : ℕ) (inv : i + prefix_len p (drop i xs) ≡ prefix_len p xs) where
   pub goes : i < length xs → p (get_or xs i 0) ≡ true → i + 1 + prefix_len p (drop (i + 1) xs) ≡ prefix_len p xs

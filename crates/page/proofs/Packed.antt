@@ -1,5 +1,5 @@
 -- What packing answers and leaves, by whether the length fits.
-use Rattle.std.proofs.Common.{◌≡◌, ℕ, ◌<◌, ◌≤◌, Bool, true, false, cond, leb, ◌⊎◌, List, ◌++◌, length, drop, Some, None, Ok, Err, sym, ap, ◌∙◌, ⊎_elim}
+use Rattle.std.proofs.Common.{◌≡◌, ℕ, ◌<◌, ◌≤◌, false, leb, ◌⊎◌, List, ◌++◌, length, drop, Some, None, Ok, Err, sym, ap, ◌∙◌, ⊎_elim}
 use Rattle.std.proofs.lemmas.Bool.{le-leb, lt-leb, and_from, and_left, and_right, cond-true, cond-false}
 use Rattle.supply.specs.Meaning.{Meaning}
 use Rattle.streams.specs.Draw.{Late}

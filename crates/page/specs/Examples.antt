@@ -1,5 +1,5 @@
 -- Worked pages.
-use Rattle.std.specs.Prelude.{◌≡◌, ℕ, ◌+◌, Bool, true, false, cond, List, [], ◌∷◌, length, Some, None, Option, ◌==◌}
+use Rattle.std.specs.Prelude.{◌≡◌, ℕ, ◌+◌, Bool, true, false, cond, List, [], ◌∷◌, length, Some, None, ◌==◌}
 use Rattle.std.specs.Float.{nan}
 use Rattle.math.specs.Product.{identity, zero, one}
 use Rattle.records.specs.declared.glyph.Glyph.{Glyph}

@@ -1,7 +1,5 @@
 -- The bytes of a page, over a scene, the meaning of a glyph supply and the words that are bound late.
 use Rattle.std.specs.Prelude.{ℕ, ◌+◌, ◌-◌, ◌*◌, ◌/◌, List, ◌++◌, length, replicate}
-use Rattle.records.specs.declared.style.Style.{Style}
-use Rattle.math.specs.declared.transform.Transform.{Transform}
 use Rattle.byte_writers.specs.Bytes.{words_bytes}
 use Rattle.supply.specs.Meaning.{Meaning}
 use Rattle.streams.specs.Kind.{stream_of, stream_bytes}

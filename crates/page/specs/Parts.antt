@@ -1,5 +1,5 @@
 -- The parts of a page between its bases, and when a layout lies in some bytes.
-use Rattle.std.specs.Prelude.{ℕ, ◌*◌, Bool, ◌&&◌, List, ◌++◌, length, drop, nat_le}
+use Rattle.std.specs.Prelude.{ℕ, ◌*◌, Bool, ◌&&◌, List, ◌++◌, drop, nat_le}
 use Rattle.std.specs.List.{between}
 use Rattle.page.specs.declared.layout.Layout.{Layout}
 use Rattle.page.specs.declared.misplaced.Misplaced.{Misplaced}

@@ -1,5 +1,5 @@
 -- The plain pack, of a scene without patches.
-use Rattle.std.specs.Prelude.{ℕ, cond, List, [], ◌∷◌, length, Some, None, Option, Result, ◌==◌}
+use Rattle.std.specs.Prelude.{ℕ, cond, List, [], ◌∷◌, length, Some, Option, Result, ◌==◌}
 use Rattle.std.specs.Option.{option_map}
 use Rattle.encoding.specs.Scene.{Scene}
 use Rattle.page.specs.Page.{page_of}

@@ -1,5 +1,5 @@
 -- The laws of rows, all together.
-use Rattle.std.proofs.Common.{◌≡◌, sym, ap, ◌∙◌, arith}
+use Rattle.std.proofs.Common.{sym, ap, ◌∙◌, arith}
 use Rattle.ramps.specs.Keys.{same_key}
 use Rattle.ramps.specs.Laws.{RowLaws}
 use Rattle.ramps.proofs.SameKeys.{key_from, key_same}

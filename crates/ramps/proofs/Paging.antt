@@ -1,12 +1,12 @@
 -- A gradient's row, once found, stays the row of its key to the end of the page.
-use Rattle.std.proofs.Common.{◌≡◌, ℕ, zero, suc, ◌+◌, ◌<◌, ◌≤◌, ◌⊎◌, List, [], ◌∷◌, ◌++◌, length, get_or, take, set, Some, None, Ok, Err, Option, sym, refl, ap, ◌∙◌, subst, inl, inr, arith, length-take}
+use Rattle.std.proofs.Common.{◌≡◌, ℕ, zero, suc, ◌+◌, ◌<◌, ◌⊎◌, List, [], ◌∷◌, ◌++◌, length, get_or, set, Some, None, Ok, Err, Option, sym, refl, ap, ◌∙◌, subst, inl, inr, arith, length-take}
 use Rattle.std.specs.List.{between}
 use Rattle.std.proofs.lemmas.List.{length-set, get_or-set_same, get_or-set_other, get_or_append_left, length_push, get_or_push, get_or-take}
 use Rattle.std.proofs.lemmas.Bool.{cases_eq}
 use Rattle.draw.specs.declared.color.StopBits.{StopBits}
 use Rattle.records.specs.declared.patch.Patch.{Patch}
 use Rattle.records.specs.declared.patch.Patch.TheVariants.{Ramp, GlyphRun, Image}
-use Rattle.ramps.specs.Rows.{RampRow, used_on, no_row, has_key, row_with, Chosen, added, added_for, added_from, and_then, maintained, rows_for}
+use Rattle.ramps.specs.Rows.{RampRow, used_on, no_row, has_key, row_with, Chosen, added_for, added_from, and_then, maintained, rows_for}
 use Rattle.ramps.specs.Sheet.{row_words}
 use Rattle.ramps.specs.Laws.{key_at, last_at, New, Step, again, rewrites, adds, refuses, Sound, Kept, Finds, FindsFor, Page}
 use Rattle.ramps.proofs.SameKeys.{key_from}

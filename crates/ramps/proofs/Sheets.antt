@@ -8,7 +8,7 @@ use Rattle.draw.specs.Ramp.{sample_of}
 use Rattle.ramps.specs.declared.rows.Rows.{Rows}
 use Rattle.ramps.specs.Rows.{RampRow, no_row}
 use Rattle.ramps.specs.Sheet.{row_words, part, sheet_of, Drawn}
-use Rattle.ramps.specs.View.{row_of, rows_of}
+use Rattle.ramps.specs.View.{rows_of}
 use Rattle.ramps.proofs.Parted.{length_parts, parts_joined, part_joined}
 
 pub wide : (r : RampRow) → length (row_words r) ≡ 512

@@ -1,5 +1,5 @@
 -- What the rows of a page are, in the words of their rules.
-use Rattle.std.specs.Prelude.{◌≡◌, ℕ, ◌+◌, ◌-◌, ◌*◌, ◌<◌, ◌≤◌, List, [], ◌∷◌, ◌++◌, map, length, get_or, drop, replicate, Some, Ok, Err, Decides, ◌≢◌, slice_index_or, slice_set}
+use Rattle.std.specs.Prelude.{◌≡◌, ℕ, ◌+◌, ◌-◌, ◌*◌, ◌<◌, ◌≤◌, List, [], ◌∷◌, ◌++◌, length, get_or, drop, replicate, Some, Ok, Err, Decides, ◌≢◌, slice_index_or, slice_set}
 use Rattle.std.specs.List.{between}
 use Rattle.draw.specs.declared.color.StopBits.{StopBits}
 use Rattle.records.specs.declared.patch.Patch.{Patch}

@@ -1,5 +1,5 @@
 -- What keys and rows hold.
-use Rattle.std.specs.Prelude.{ℕ, List, map, take}
+use Rattle.std.specs.Prelude.{List, map, take}
 use Rattle.draw.specs.declared.color.StopBits.{StopBits}
 use Rattle.ramps.specs.Rows.{RampRow, used_on}
 use Rattle.ramps.specs.declared.key.Key.{Key}

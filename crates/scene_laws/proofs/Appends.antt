@@ -1,5 +1,5 @@
 -- Lists and entries that are moved twice.
-use Rattle.std.proofs.Common.{◌≡◌, ℕ, ◌+◌, List, [], ◌∷◌, ◌++◌, map, length, take, None, sym, refl, ap, ◌∙◌, append_assoc, append-nil, add_assoc, arith, length-append}
+use Rattle.std.proofs.Common.{◌≡◌, ℕ, ◌+◌, List, [], ◌∷◌, ◌++◌, map, length, take, None, refl, ap, ◌∙◌, append_assoc, add_assoc, arith, length-append}
 use Rattle.std.proofs.lemmas.List.{take_at, map-append}
 use Rattle.records.specs.Moved.{past, moved_patch, moved_run, under}
 use Rattle.records.specs.declared.patch.Patch.{Patch}

@@ -1,5 +1,5 @@
 -- A stream has as many entries as it counts, and its runs are cuts.
-use Rattle.std.proofs.Common.{◌≡◌, ℕ, ◌+◌, ◌-◌, ◌*◌, ◌<◌, ◌≤◌, Bool, true, false, cond, List, [], ◌∷◌, ◌++◌, length, get_or, drop, sum_by, sym, refl, ap, ◌∙◌, subst, add-zero, arith}
+use Rattle.std.proofs.Common.{◌≡◌, ℕ, ◌+◌, ◌*◌, ◌<◌, ◌≤◌, true, false, cond, List, [], ◌∷◌, ◌++◌, length, get_or, drop, sum_by, sym, refl, ap, ◌∙◌, subst, add-zero, arith}
 use Rattle.std.specs.List.{between, flat_map}
 use Rattle.std.proofs.lemmas.List.{drop_more, drop_all, length-append}
 use Rattle.std.proofs.lemmas.List.Sums.{sum_by-cons}
@@ -8,7 +8,7 @@ use Rattle.byte_writers.specs.Put.{Put}
 use Rattle.byte_writers.proofs.Joins.{length_joined_by, put_as}
 use Rattle.records.specs.declared.glyph.Glyph.{Glyph}
 use Rattle.records.specs.declared.glyph.GlyphRun.{GlyphRun}
-use Rattle.streams.specs.Splice.{Cut, spliced, Cuts}
+use Rattle.streams.specs.Splice.{Cut, Cuts}
 use Rattle.streams.specs.Kind.{Kind, put_of, range_of, cut_of, cuts_of, stream_of, stream_bytes, run_count, runs_count, stream_count}
 use Rattle.streams.proofs.Left.{Left, counted, rises, room, advance, left_as}
 

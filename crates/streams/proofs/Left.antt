@@ -1,13 +1,13 @@
 -- A stream half written behind P: what is written, with the cuts that are left, is the whole.
 use Rattle.std.proofs.Common.{◌≡◌, ℕ, ◌+◌, ◌-◌, ◌≤◌, List, [], ◌∷◌, ◌++◌, length, take, drop, sum_by, sym, refl, ap, ◌∙◌, subst, append_assoc, append-nil, arith}
 use Rattle.std.specs.List.{flat_map, between}
-use Rattle.std.proofs.lemmas.List.{length-append, length-drop, length-take-le}
+use Rattle.std.proofs.lemmas.List.{length-append, length-drop}
 use Rattle.std.proofs.lemmas.List.Edits.{length-between}
 use Rattle.std.proofs.lemmas.List.Sums.{sum_by-cons}
 use Rattle.byte_writers.specs.Filled.{Filled}
 use Rattle.byte_writers.specs.Put.{Put}
 use Rattle.byte_writers.proofs.Splice.{filled_as, start_at}
-use Rattle.byte_writers.proofs.Joins.{joined_append, length_joined_append, puts, put_from}
+use Rattle.byte_writers.proofs.Joins.{joined_append, length_joined_append, puts}
 use Rattle.streams.specs.Splice.{Cut, spliced, Cuts}
 
 pub cuts_end : {X : Type 0} (n f : ℕ) (cs : List (Cut X)) → Cuts n f cs → f ≤ n

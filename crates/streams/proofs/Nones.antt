@@ -1,7 +1,6 @@
 -- What an element is past a list's end.
 use Rattle.std.proofs.Common.{[], None}
 use lib.Ieee.{nan}
-use Rattle.math.specs.declared.transform.Transform.{Transform}
 use Rattle.records.specs.declared.glyph.Glyph.{Glyph}
 use Rattle.records.specs.declared.glyph.GlyphRun.{GlyphRun}
 

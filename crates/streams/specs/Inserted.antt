@@ -1,5 +1,5 @@
 -- What a run puts into the streams, over the glyphs of its range.
-use Rattle.std.specs.Prelude.{ℕ, Bool, List, [], ◌∷◌, Some, None, Option, Float}
+use Rattle.std.specs.Prelude.{Bool, [], ◌∷◌, Some, None, Option}
 use Rattle.std.specs.Float.Ieee.{neg}
 use Rattle.math.specs.Product.{times, identity, zero, one}
 use Rattle.math.specs.declared.transform.Transform.{Transform}

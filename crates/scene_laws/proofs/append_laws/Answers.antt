@@ -1,4 +1,4 @@
-use Rattle.std.proofs.Common.{◌≡◌, append-nil, add-zero}
+use Rattle.std.proofs.Common.{append-nil, add-zero}
 use Rattle.scene_laws.proofs.Appends.{begins, associates}
 use Rattle.scene_laws.proofs.append_laws.Goals as goal
 

@@ -1,5 +1,5 @@
 -- One slot more, and the end.
-use Rattle.std.proofs.Common.{◌≡◌, ◌+◌, drop, None, sym, ap, ◌∙◌}
+use Rattle.std.proofs.Common.{◌+◌, drop, None, sym, ap, ◌∙◌}
 use Rattle.std.proofs.lemmas.List.{at_drop_more, at_drop_all}
 use Rattle.atlas.specs.Search.{edge_below}
 use Rattle.atlas.proofs.search.next_edge.Goals as goal

@@ -1,5 +1,5 @@
 -- One slot more, and the end.
-use Rattle.std.proofs.Common.{◌≡◌, ◌+◌, drop, None, sym, ap, ◌∙◌, arith}
+use Rattle.std.proofs.Common.{◌+◌, drop, None, sym, ap, ◌∙◌, arith}
 use Rattle.std.proofs.lemmas.List.{at_drop_more, at_drop_all}
 use Rattle.atlas.specs.Search.{past_all}
 use Rattle.atlas.proofs.search.past_all.Goals as goal

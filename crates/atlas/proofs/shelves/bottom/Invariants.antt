@@ -1,5 +1,5 @@
 -- The heights that are passed, with those left, are the depth.
-use Rattle.std.proofs.Common.{◌≡◌, ◌+◌, ◌*◌, ◌^◌, ◌≤◌, drop}
+use Rattle.std.proofs.Common.{◌≡◌, ◌+◌, ◌*◌, ◌≤◌, drop}
 use Rattle.atlas.specs.Shelf.{depth}
 use Rattle.atlas.proofs.shelves.bottom.Given as goal
 

@@ -1,5 +1,5 @@
 -- A shelf that will do is chosen, another is passed by.
-use Rattle.std.proofs.Common.{◌≡◌, sym, ◌∙◌, arith}
+use Rattle.std.proofs.Common.{sym, ◌∙◌, arith}
 use Rattle.std.proofs.lemmas.List.{at_drop_all}
 use Rattle.atlas.specs.Shelf.{chosen}
 use Rattle.atlas.specs.ShelfFacts.{walk_found, walk_on}

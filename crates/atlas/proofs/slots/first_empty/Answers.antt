@@ -1,5 +1,5 @@
 -- A full slot is passed, and an empty one is the answer.
-use Rattle.std.proofs.Common.{◌≡◌, ◌+◌, cond, drop, None, sym, ap, ◌∙◌, arith}
+use Rattle.std.proofs.Common.{◌+◌, cond, drop, None, ap, ◌∙◌, arith}
 use Rattle.std.proofs.lemmas.List.{at_drop_more, at_drop_all}
 use Rattle.atlas.specs.Slots.{vacant}
 use Rattle.atlas.proofs.slots.first_empty.Goals as goal

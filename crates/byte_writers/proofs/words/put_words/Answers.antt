@@ -1,5 +1,4 @@
 use Rattle.std.proofs.Common.{◌≡◌, length, refl, arith}
-use lib.Ieee.{nan}
 use Rattle.byte_writers.specs.Bytes.{word_bytes}
 use Rattle.byte_writers.proofs.Splice.{record_more, records_all}
 use Rattle.byte_writers.proofs.words.put_words.Goals as goal

@@ -1,5 +1,5 @@
 use Rattle.std.proofs.Common.{◌≡◌, ◌+◌, ◌-◌, ◌*◌, ◌/◌, ◌%◌, sym, ap, ◌∙◌, arith}
-use lib.Bits.{bit_xor, xor_zero_r}
+use lib.Bits.{xor_zero_r}
 use Rattle.crc.specs.Crc.{shifts, followed}
 use Rattle.crc.proofs.Shifts.{shifts_add}
 use Rattle.crc.proofs.slices.next_entry.Goals as goal

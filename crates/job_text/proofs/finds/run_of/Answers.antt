@@ -1,5 +1,5 @@
-use Rattle.std.proofs.Common.{not, eqb, arith}
-use Rattle.std.proofs.lemmas.Bool.{eq-eqb, ne_eqb, not_from_true, not_from_false}
+use Rattle.std.proofs.Common.{eqb, arith}
+use Rattle.std.proofs.lemmas.Bool.{eq-eqb, ne_eqb}
 use Rattle.job_text.proofs.Fronts.{goes, stops, ends}
 use Rattle.job_text.proofs.finds.run_of.Goals as goal
 

@@ -1,4 +1,4 @@
-use Rattle.std.proofs.Common.{◌≡◌, ◌+◌, not, eqb, drop}
+use Rattle.std.proofs.Common.{◌≡◌, ◌+◌, eqb, drop}
 use Rattle.std.specs.List.{prefix_len}
 use Rattle.job_text.proofs.finds.run_of.Given as goal
 

@@ -1,4 +1,4 @@
-use Rattle.std.proofs.Common.{◌≡◌, refl, ap, ◌∙◌, arith}
+use Rattle.std.proofs.Common.{refl, ap, ◌∙◌, arith}
 use lib.Ieee.{to_bits}
 use Rattle.page.specs.Page.{padded}
 use Rattle.page.proofs.Lengths.{with_padding_long}

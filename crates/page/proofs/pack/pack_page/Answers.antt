@@ -1,4 +1,4 @@
-use Rattle.std.proofs.Common.{◌≡◌, length, Ok, Err, sym, ap, ◌∙◌, subst, inl, inr, ⊎_elim, arith}
+use Rattle.std.proofs.Common.{◌≡◌, length, Ok, Err, sym, ◌∙◌, subst, inl, inr, ⊎_elim, arith}
 use Rattle.streams.specs.Draw.{Owned}
 use Rattle.encoding.specs.Scene.{Scene}
 use Rattle.page.specs.Pack.{pack_answer, pack_buffer}

@@ -1,4 +1,4 @@
-use Rattle.std.proofs.Common.{◌≡◌, ◌*◌, max, ap, ◌∙◌}
+use Rattle.std.proofs.Common.{◌*◌, max, ap, ◌∙◌}
 use Rattle.page.proofs.Clipped.{part_clipped}
 use Rattle.page.proofs.reads.part.Goals as goal
 

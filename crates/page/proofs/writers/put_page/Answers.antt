@@ -1,4 +1,4 @@
-use Rattle.std.proofs.Common.{◌+◌, arith}
+use Rattle.std.proofs.Common.{arith}
 use Rattle.byte_writers.proofs.Joins.{put_then}
 use Rattle.page.specs.Viewed.{viewed}
 use Rattle.page.proofs.Kept.{inside_kept, data_kept, transforms_kept, styles_kept, draw_kept}

@@ -1,7 +1,7 @@
-use Rattle.std.proofs.Common.{◌≡◌, ℕ, ◌+◌, ◌-◌, ◌*◌, ◌/◌, ◌≤◌, List, ◌++◌, length, replicate, sym, ap, ◌∙◌, arith}
-use Rattle.std.proofs.lemmas.List.{length-replicate, length-append}
+use Rattle.std.proofs.Common.{◌≡◌, ℕ, ◌+◌, ◌-◌, ◌++◌, length, replicate, ap, arith}
+use Rattle.std.proofs.lemmas.List.{length-replicate}
 use Rattle.byte_writers.proofs.Joins.{joined_bytes, put_then, put_as}
-use Rattle.streams.specs.Kind.{stream_of, stream_bytes, stream_count}
+use Rattle.streams.specs.Kind.{stream_of, stream_count}
 use Rattle.streams.specs.Kinds.{tags_kind}
 use Rattle.streams.proofs.Counted.{stream_size}
 use Rattle.page.specs.Page.{padded, closed_tags}

@@ -1,4 +1,4 @@
-use Rattle.std.proofs.Common.{◌≡◌, sym, ap, ◌∙◌, arith, below_more}
+use Rattle.std.proofs.Common.{sym, ap, ◌∙◌, arith, below_more}
 use Rattle.ramps.specs.Sheet.{samples_of, row_words}
 use Rattle.ramps.specs.View.{rows_of}
 use Rattle.ramps.proofs.Stored.{stored_length, stored_at}

@@ -1,4 +1,4 @@
-use Rattle.std.proofs.Common.{◌≡◌, sym, refl, ◌∙◌, arith}
+use Rattle.std.proofs.Common.{sym, ◌∙◌, arith}
 use Rattle.ramps.proofs.SameKeys.{lengths_differ, key_more, key_all}
 use Rattle.ramps.proofs.key_calls.same_key.Goals as goal
 

@@ -1,4 +1,4 @@
-use Rattle.std.proofs.Common.{◌≡◌, cond, length, sym, ap, ◌∙◌, arith}
+use Rattle.std.proofs.Common.{cond, length, ap, ◌∙◌, arith}
 use Rattle.supply.specs.Meaning.{Shape}
 use Rattle.streams.specs.Kinds.{tags_kind, data_kind, transforms_kind, styles_kind}
 use Rattle.streams.proofs.Nones.{no_glyph}

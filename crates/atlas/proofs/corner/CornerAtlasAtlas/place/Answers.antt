@@ -1,5 +1,5 @@
 -- What the search answers is what the kind gives, and the least free place.
-use Rattle.std.proofs.Common.{◌≡◌, ℕ, Option, sym, ap, ◌∙◌, subst, arith}
+use Rattle.std.proofs.Common.{◌≡◌, sym, ap, ◌∙◌, subst, arith}
 use Rattle.atlas.specs.Corner.{TakesLeast, corner_put}
 use Rattle.atlas.specs.CornerView.{cornered}
 use Rattle.atlas.specs.CornerLaw.{code_gives, code_least, code_inside, code_sound, code_put}

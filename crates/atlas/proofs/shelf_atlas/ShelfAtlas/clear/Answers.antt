@@ -1,5 +1,5 @@
 -- The shelves that stand without the picture.
-use Rattle.std.proofs.Common.{◌≡◌, ℕ, List, length, set, None, sym, ap, ◌∙◌, arith}
+use Rattle.std.proofs.Common.{ℕ, List, length, set, None, sym, ap, ◌∙◌, arith}
 use Rattle.atlas.specs.Shelf.{Shelved, all_tall, depth, all_stand, standing}
 use Rattle.atlas.specs.ShelfView.{shelved}
 use Rattle.atlas.specs.ShelfLaw.{emptied_sound}

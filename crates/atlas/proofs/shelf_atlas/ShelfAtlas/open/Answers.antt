@@ -1,5 +1,5 @@
 -- One more shelf at the end.
-use Rattle.std.proofs.Common.{◌≡◌, ℕ, ◌<◌, List, length, set, Some, sym, ap, ◌∙◌, arith, length-set}
+use Rattle.std.proofs.Common.{ℕ, ◌<◌, List, length, set, Some, sym, ap, ◌∙◌, arith, length-set}
 use Rattle.std.proofs.lemmas.List.{take_more_set}
 use Rattle.atlas.specs.Shelf.{Shelved, all_tall, depth, all_stand, standing}
 use Rattle.atlas.proofs.shelf_atlas.ShelfAtlas.open.Goals as goal

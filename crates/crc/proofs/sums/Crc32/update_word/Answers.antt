@@ -1,4 +1,4 @@
-use Rattle.std.proofs.Common.{◌≡◌, ap, ◌∙◌}
+use Rattle.std.proofs.Common.{ap, ◌∙◌}
 use Rattle.crc.specs.Crc.{fed, word_bytes}
 use Rattle.crc.proofs.Parts.{on}
 use Rattle.crc.proofs.sums.Crc32.update_word.Goals as goal

@@ -1,4 +1,4 @@
-use Rattle.std.proofs.Common.{◌≡◌, ◌-◌, ◌++◌, length, take, drop, replicate, sym, refl, ap, ◌∙◌}
+use Rattle.std.proofs.Common.{◌-◌, ◌++◌, length, take, drop, replicate, refl, ap, ◌∙◌}
 use Rattle.std.proofs.lemmas.List.{take_at}
 use Rattle.ramps.proofs.SameKeys.{no_stop}
 use Rattle.ramps.proofs.key.Key.new.Goals as goal

@@ -1,4 +1,4 @@
-use Rattle.std.proofs.Common.{◌≡◌, sym, ap, ◌∙◌, arith}
+use Rattle.std.proofs.Common.{sym, ap, ◌∙◌, arith}
 use Rattle.ramps.specs.Keys.{same_key}
 use Rattle.ramps.specs.Rows.{has_key, lowest_from}
 use Rattle.ramps.proofs.Lowest.{lowest_more, lowest_all}
