@@ -1,7 +1,7 @@
 -- The order of the rectangles is of no account to what is free.
 use Rattle.std.proofs.Common.{◌≡◌, ℕ, ◌+◌, true, cond, ◌&&◌, leb, [], ◌∷◌, Some, None, sym, refl, ap, ◌∙◌, ⊎_elim}
 use Rattle.std.specs.List.Sorted.{IsPermutation}
-use Rattle.std.specs.List.{AllByRecursion as All}
+use Rattle.std.specs.List.{AllByRecursion}
 use Rattle.std.proofs.lemmas.List.Sorted.{IsPermutation-sym}
 use Rattle.std.proofs.ByRecursion.{all_shuffled}
 use Rattle.std.proofs.lemmas.Bool.{cases_Bool, and_from, and_parts, both_ways}
@@ -11,11 +11,11 @@ use Rattle.atlas.specs.Slots.{Slots, misses, clear}
 use Rattle.atlas.specs.Corner.{place_at, in_row, least_place}
 use Rattle.atlas.specs.Searches.{first_same}
 
-all_missed : (r : Rect) (ss : Slots) → clear r ss ≡ true → All (λ o. misses r o ≡ true) ss
+all_missed : (r : Rect) (ss : Slots) → clear r ss ≡ true → AllByRecursion (λ o. misses r o ≡ true) ss
 all_missed r [] e = tt
 all_missed r (s ∷ ss) e = let p = and_parts (misses r s) (clear r ss) e in (p.0, all_missed r ss p.1)
 
-missed_all : (r : Rect) (ss : Slots) → All (λ o. misses r o ≡ true) ss → clear r ss ≡ true
+missed_all : (r : Rect) (ss : Slots) → AllByRecursion (λ o. misses r o ≡ true) ss → clear r ss ≡ true
 missed_all r [] m = refl
 missed_all r (s ∷ ss) m = and_from _ _ m.0 (missed_all r ss m.1)
 

@@ -1,6 +1,6 @@
 -- What an atlas means: the states of its kind, and the laws that every kind owes.
 use Rattle.std.specs.Prelude.{◌≡◌, ℕ, ◌≤◌, min, true, cond, List, [], ◌∷◌, length, is_some, Some, None, Option, ◌==◌, ◌≢◌}
-use Rattle.std.specs.List.{AllByRecursion as All}
+use Rattle.std.specs.List.{AllByRecursion}
 use Rattle.atlas.specs.declared.rect.Rect.{Rect}
 use Rattle.atlas.specs.Rects.{rect, Inside, Apart}
 
@@ -30,7 +30,7 @@ pub record Free (K : AtlasKind) (s : K.carrier) (w h x y : ℕ) : Type 0 where
 -- the handles differ, and each has a live rectangle
 abbrev pub InUse : (ℕ → Option Rect) → List ℕ → Type 0
 InUse live [] = Unit {0}
-InUse live (i ∷ is) = (is_some (live i) ≡ true) × All (λ j. j ≢ i) is × InUse live is
+InUse live (i ∷ is) = (is_some (live i) ≡ true) × AllByRecursion (λ j. j ≢ i) is × InUse live is
 
 pub record AtlasLaws (K : AtlasKind) : Type 0 where
   -- every call leads from a sound state to a sound one

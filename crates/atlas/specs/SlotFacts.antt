@@ -1,7 +1,7 @@
 -- What both atlases need to know of their slots.
 use Rattle.std.specs.Prelude.{◌≡◌, ℕ, zero, suc, ◌+◌, ◌<◌, ◌≤◌, true, false, cond, ◌⊎◌, List, [], ◌∷◌, length, replicate, is_some, Some, None, Option, ◌==◌, ◌≢◌, slice_set, refl}
 use Rattle.std.proofs.Common.{sym, ap, subst, ◌∙◌, inl, inr, ⊎_elim, arith, get_or-set_same, get_or-set_other}
-use Rattle.std.specs.List.{AllByRecursion as All}
+use Rattle.std.specs.List.{AllByRecursion}
 use Rattle.std.proofs.lemmas.List.{set_past, get_or_past}
 use Rattle.std.proofs.lemmas.Bool.{cases_eq, cases_lt, cases_Bool, cond-true, cond-false, eq-eqb, ne_eqb, ltb-true, lt-ltb, le-leb, leb-true, and_parts, and_from, not-true, not_from_false, false≢true}
 use Rattle.atlas.specs.declared.rect.Rect.{Rect}
@@ -100,7 +100,7 @@ count_vacant [] h = absurd (omega arith)
 count_vacant (None ∷ ss) h = let q = count_few ss in omega arith
 count_vacant (Some t ∷ ss) h = let q = count_vacant ss (omega arith) in omega arith
 
-still_used : (ss : Slots) (v : ℕ) (is : List ℕ) → All (λ j. j ≢ v) is → InUse (slot ss) is → InUse (slot (slice_set ss v None)) is
+still_used : (ss : Slots) (v : ℕ) (is : List ℕ) → AllByRecursion (λ j. j ≢ v) is → InUse (slot ss) is → InUse (slot (slice_set ss v None)) is
 still_used ss v [] d u = tt
 still_used ss v (i ∷ is) d u = (ap is_some (slot_emptied ss v i ∙ cond-false (i == v) None (slot ss i) (ne_eqb i v d.0)) ∙ u.0, u.1, still_used ss v is d.1 u.2)
 

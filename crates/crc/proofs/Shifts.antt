@@ -2,7 +2,7 @@
 use Rattle.std.proofs.Common.{◌≡◌, ℕ, zero, suc, ◌+◌, ◌*◌, ◌/◌, ◌%◌, ◌^◌, ◌<◌, List, [], ◌∷◌, length, sym, refl, ap, ◌∙◌, ap₂, zero-lt-suc, mul_assoc, suc-add, pow-suc, div-add-mod', zero-add, mul-one, mul-div_cancel, arith}
 use native.Mathlib.Nat.{mul-mod_left, div-eq_of_lt}
 use lib.Bits.{bit_xor, xor_comm, xor_assoc, xor_zero_r, xor_shr, xor_mod, xor_shifted}
-use Rattle.std.specs.List.{AllByRecursion as All}
+use Rattle.std.specs.List.{AllByRecursion}
 use Rattle.crc.specs.Crc.{added, shift, shifts, fed_byte, fed, followed}
 
 xor_swap : (a b c d : ℕ) → bit_xor (bit_xor a b) (bit_xor c d) ≡ bit_xor (bit_xor a c) (bit_xor b d)
@@ -87,7 +87,7 @@ abbrev pub peeled : ℕ → List ℕ → ℕ
 peeled c [] = c
 peeled c (b ∷ bs) = bit_xor (followed (length bs) (bit_xor c b % 256)) (peeled (c / 256) bs)
 
-pub fed_peeled : (c : ℕ) (bs : List ℕ) → All (λ b. b < 256) bs → fed c bs ≡ peeled c bs
+pub fed_peeled : (c : ℕ) (bs : List ℕ) → AllByRecursion (λ b. b < 256) bs → fed c bs ≡ peeled c bs
 fed_peeled c [] small = refl
 fed_peeled c (b ∷ bs) small =
     peel c b bs small.0 ∙ ap (bit_xor (followed (length bs) (bit_xor c b % 256))) (fed_peeled (c / 256) bs small.1)
