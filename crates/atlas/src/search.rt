@@ -1,6 +1,6 @@
 // The corner atlas's search for a place, from edge to edge.
 ghost use Rattle.std.specs.Prelude.{◌≡◌, ℕ, ◌+◌, ◌^◌, ◌<◌, ◌≤◌};
-ghost use Rattle.atlas.specs.Search.{past as pastOne, past_all, nearer as nearerEdge, edge_below};
+ghost use Rattle.atlas.specs.Search.{past as past_one, past_all, nearer as nearer_edge, edge_below};
 ghost use Rattle.atlas.specs.Corner.{in_row, least_place};
 
 use crate::rect::Rect;
@@ -8,7 +8,7 @@ use crate::rect::Rect;
 // `x`, or the right edge of the slot's rectangle, if the picture meets that at `x`.
 fn past(slot: Option<Rect>, x: u64, y: u64, width: u64, height: u64) -> u64
     requires { (x < 2 ^ 34) × ((y < 2 ^ 34) × ((width < 2 ^ 34) × (height < 2 ^ 34))) }
-    ensures is { result ≡ pastOne y width height x slot }
+    ensures is { result ≡ past_one y width height x slot }
     ensures small { result < 2 ^ 34 }
 {
     match slot {
@@ -38,7 +38,7 @@ fn past_all(slots: &[Option<Rect>], from: u64, y: u64, width: u64, height: u64) 
 
 // `least`, or the slot's lower edge, if that lies past `y` and before it.
 fn nearer(slot: Option<Rect>, y: u64, least: u64) -> u64
-    ensures { result ≡ nearerEdge y least slot }
+    ensures { result ≡ nearer_edge y least slot }
 {
     match slot {
         Some(r) => {

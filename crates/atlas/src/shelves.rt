@@ -1,6 +1,6 @@
 // Questions about a stack of shelves.
 ghost use Rattle.std.specs.Prelude.{◌≡◌, ℕ, ◌+◌, ◌^◌, ◌<◌, ◌≤◌, length};
-ghost use Rattle.atlas.specs.Shelf.{depth, reach as reaching, furthest, on_shelf, new_shelf, chosen, standing as standingOf};
+ghost use Rattle.atlas.specs.Shelf.{depth, reach as reaching, furthest, on_shelf, new_shelf, chosen, standing as standing_of};
 
 use crate::rect::Rect;
 
@@ -100,7 +100,7 @@ pub(crate) fn choose(
 // How many shelves are left when the empty ones at the end have gone.
 pub(crate) fn standing(slots: &[Option<Rect>], shelves: &[u32]) -> usize
     requires { length shelves.now ≤ 8192 }
-    ensures { result ≡ standingOf slots.now 0 shelves.now }
+    ensures { result ≡ standing_of slots.now 0 shelves.now }
 {
     let mut end = bottom(shelves);
     let mut count = shelves.len();
