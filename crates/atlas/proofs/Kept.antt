@@ -1,10 +1,10 @@
 -- For users of an atlas of any kind: what is live after a call.
 use Rattle.std.proofs.Common.{◌≡◌, ℕ, eqb, Some, None, sym, refl, ap, ◌∙◌, ⊎_elim}
 use Rattle.std.proofs.lemmas.Bool.{cases_eq, cond-true, cond-false, eq-eqb, ne_eqb}
+use Rattle.std.proofs.lemmas.Option.{none-some}
 use Rattle.atlas.specs.declared.rect.Rect.{Rect}
 use Rattle.atlas.specs.Rects.{rect}
 use Rattle.atlas.specs.Kind.{AtlasKind, AtlasLaws}
-use Rattle.atlas.specs.Searches.{none_some}
 
 module _ (K : AtlasKind) (L : AtlasLaws K) (s : K.carrier) (v : K.sound s) where
   -- the new rectangle is live under the fresh handle
@@ -15,7 +15,7 @@ module _ (K : AtlasKind) (L : AtlasLaws K) (s : K.carrier) (v : K.sound s) where
   pub still_live : (w h x y i : ℕ) (r : Rect) → K.gives s w h ≡ Some (x, y) → K.live s i ≡ Some r → K.live (K.placed s w h) i ≡ Some r
   still_live w h x y i r e q =
       ⊎_elim
-      (λ t. absurd (none_some r (sym (L.unused s w h x y v e) ∙ (ap (K.live s) (sym t) ∙ q))))
+      (λ t. absurd (none-some r (sym (L.unused s w h x y v e) ∙ (ap (K.live s) (sym t) ∙ q))))
       (λ t. L.adds s w h x y i v e ∙ cond-false (eqb i (K.fresh s)) (Some (rect x y w h)) (K.live s i) (ne_eqb i (K.fresh s) t) ∙ q)
       (cases_eq i (K.fresh s))
 

@@ -1,34 +1,21 @@
 -- The order of the rectangles is of no account to what is free.
-use Rattle.std.proofs.Common.{◌≡◌, ℕ, ◌+◌, true, cond, ◌&&◌, leb, [], ◌∷◌, Some, None, sym, refl, ap, ◌∙◌, ⊎_elim}
+use Rattle.std.proofs.Common.{◌≡◌, ℕ, ◌+◌, true, cond, ◌&&◌, leb, Some, None, ap}
+use Rattle.std.specs.Cmp.{both_ways}
 use Rattle.std.specs.List.Sorted.{IsPermutation}
-use Rattle.std.specs.List.{AllByRecursion}
-use Rattle.std.proofs.lemmas.List.Sorted.{IsPermutation-sym}
-use Rattle.std.proofs.ByRecursion.{all_shuffled}
-use Rattle.std.proofs.lemmas.Bool.{cases_Bool, and_from, and_parts, both_ways}
+use Rattle.std.proofs.lemmas.List.Sorted.{IsPermutation-sym, All-permutation}
+use Rattle.std.proofs.lemmas.List.Sums.{AllPass-from_list_all, list_all-from_AllPass}
 use Rattle.atlas.specs.declared.rect.Rect.{Rect}
 use Rattle.atlas.specs.Rects.{rect}
 use Rattle.atlas.specs.Slots.{Slots, misses, clear}
 use Rattle.atlas.specs.Corner.{place_at, in_row, least_place}
 use Rattle.atlas.specs.Searches.{first_same}
 
-all_missed : (r : Rect) (ss : Slots) → clear r ss ≡ true → AllByRecursion (λ o. misses r o ≡ true) ss
-all_missed r [] e = tt
-all_missed r (s ∷ ss) e = let p = and_parts (misses r s) (clear r ss) e in (p.0, all_missed r ss p.1)
-
-missed_all : (r : Rect) (ss : Slots) → AllByRecursion (λ o. misses r o ≡ true) ss → clear r ss ≡ true
-missed_all r [] m = refl
-missed_all r (s ∷ ss) m = and_from _ _ m.0 (missed_all r ss m.1)
+still_clear : (r : Rect) (ss ts : Slots) → IsPermutation ss ts → clear r ss ≡ true → clear r ts ≡ true
+still_clear r ss ts moved e = list_all-from_AllPass (misses r) ts (All-permutation (λ o. misses r o ≡ true) ss ts moved (AllPass-from_list_all (misses r) ss e))
 
 module _ (ss ts : Slots) (moved : IsPermutation ss ts) where
   same_clear : (r : Rect) → clear r ts ≡ clear r ss
-  same_clear r =
-      ⊎_elim
-      (λ t. missed_all r ts (all_shuffled (λ o. misses r o ≡ true) ss ts moved (all_missed r ss t)) ∙ sym t)
-      (λ t. ⊎_elim
-      (λ u. absurd (both_ways _ t (missed_all r ss (all_shuffled (λ o. misses r o ≡ true) ts ss (IsPermutation-sym ss ts moved) (all_missed r ts u)))))
-      (λ u. u ∙ sym t)
-      (cases_Bool (clear r ts)))
-      (cases_Bool (clear r ss))
+  same_clear r = both_ways (clear r ts) (clear r ss) (still_clear r ts ss (IsPermutation-sym ss ts moved)) (still_clear r ss ts moved)
 
   pub same_least : (S w h : ℕ) → least_place S ts w h ≡ least_place S ss w h
   same_least S w h =

@@ -1,8 +1,8 @@
 -- The corner atlas: of all free places the one of least y, and there of least x.
-use Rattle.std.specs.Prelude.{◌≡◌, ℕ, ◌+◌, ◌<◌, ◌≤◌, min, Bool, true, cond, ◌&&◌, length, replicate, Some, None, Option, nat_le, slice_set}
+use Rattle.std.specs.Prelude.{◌≡◌, ℕ, ◌+◌, ◌<◌, min, Bool, true, cond, ◌&&◌, replicate, Some, None, Option, nat_le, slice_set}
 use Rattle.atlas.specs.declared.rect.Rect.{Rect}
 use Rattle.atlas.specs.Rects.{rect}
-use Rattle.atlas.specs.Slots.{Slots, Lies, Separate, slot, vacant, allowed, clear}
+use Rattle.atlas.specs.Slots.{Slots, SquareSound, slot, vacant, allowed, clear}
 use Rattle.atlas.specs.Search.{first_of}
 use Rattle.atlas.specs.Kind.{AtlasKind, Free}
 
@@ -10,11 +10,8 @@ pub record Cornered : Type 0 where
   pub side : ℕ
   pub slots : Slots
 
-pub record CornerSound (s : Cornered) : Type 0 where
-  pub small : s.side ≤ 8192
-  pub whole : length s.slots ≡ 256
-  pub lies : Lies s.side s.slots
-  pub separate : Separate s.slots
+abbrev pub CornerSound : Cornered → Type 0
+CornerSound s = SquareSound s.side s.slots
 
 -- whether w by h is free at (x, y)
 abbrev pub free_at : ℕ → Slots → ℕ → ℕ → ℕ → ℕ → Bool

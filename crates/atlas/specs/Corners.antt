@@ -1,19 +1,21 @@
 -- The code's search for a place, which tries only edges, finds the first free place of all.
-use Rattle.std.specs.Prelude.{◌≡◌, ℕ, ◌+◌, ◌<◌, ◌≤◌, true, false, [], ◌∷◌, is_some, Some, None, Option, ◌≢◌, nat_le, refl}
+use Rattle.std.specs.Prelude.{◌≡◌, ℕ, zero, suc, ◌+◌, ◌<◌, ◌≤◌, min, true, false, List, [], ◌∷◌, is_some, Some, None, Option, ◌≢◌, nat_le, nat_lt, fold, filter, filter_map, refl}
+use Rattle.std.specs.List.{reduce}
 use Rattle.std.proofs.Common.{sym, ap, ◌∙◌, ⊎_elim, arith}
-use Rattle.std.proofs.lemmas.Bool.{cases_lt, cases_Bool, cond-true, cond-false, le-leb, lt-leb, leb-true, and_left, and_right, and_from, and_parts, not_from_true, not_from_false, not-true, both_ways}
-use Rattle.std.proofs.lemmas.Bool.Decides.{nat_tests}
+use Rattle.std.proofs.lemmas.Bool.{cases_lt, cases_Bool, cond-true, cond-false, le-leb, lt-leb, lt-ltb, le-ltb, leb-true, and_left, and_right, and_from, and_parts, not_from_true, not_from_false, both_ways}
+use Rattle.std.proofs.lemmas.Option.{none-some}
 use Rattle.atlas.specs.declared.rect.Rect.{Rect}
 use Rattle.atlas.specs.Rects.{rect, meets}
-use Rattle.atlas.specs.Slots.{Slots, misses, clear}
-use Rattle.atlas.specs.Search.{past, past_all, nearer, edge_below}
+use Rattle.atlas.specs.Slots.{Slots, slot, misses, clear}
+use Rattle.atlas.specs.Search.{past, past_all, lower, edge_below}
 use Rattle.atlas.specs.Corner.{free_at, place_at, in_row, least_place}
 use Rattle.atlas.specs.RectFacts.{met_parts, met_from}
-use Rattle.atlas.specs.Searches.{none_some, Found, first_is, first_none, first_found, none_first}
+use Rattle.atlas.specs.SlotFacts.{clear_at, clear_from}
+use Rattle.atlas.specs.Searches.{Found, first_is, first_none, first_found, none_first}
 
 none_is : {X : Type 0} (o : Option X) → is_some o ≡ false → o ≡ None
 none_is None e = refl
-none_is (Some x) e = let z : ◌≡◌ {A = ℕ} 0 1 = cc in absurd (omega arith)
+none_is (Some x) e = cc
 
 -- a pass to the right
 module _ (y w h : ℕ) where
@@ -60,32 +62,97 @@ module _ (y w h : ℕ) where
       (λ m. let e = past_by x r m in and_right (misses (rect k y w h) (Some r)) _ (passed_over (past y w h x (Some r)) k ss (omega arith) v))
       (cases_Bool (meets (rect x y w h) r))
 
--- a step down
-pub edge_within : (y n : ℕ) (ss : Slots) → edge_below y n ss ≤ n
-edge_within y n [] = omega arith
-edge_within y n (None ∷ ss) = edge_within y n ss
-edge_within y n (Some r ∷ ss) = let q = edge_within y (nearer y n (Some r)) ss in let p : nearer y n (Some r) ≤ n = grind (arith, nat_tests) in omega arith
+-- the lower edges past y
+abbrev edges : ℕ → Slots → List ℕ
+edges y ss = filter (λ edge. nat_lt y edge) (filter_map lower ss)
 
-pub edge_past : (y n : ℕ) (ss : Slots) → y < n → y < edge_below y n ss
-edge_past y n [] u = u
-edge_past y n (None ∷ ss) u = edge_past y n ss u
-edge_past y n (Some r ∷ ss) u = edge_past y (nearer y n (Some r)) ss (grind (arith, nat_tests))
+edges_more : (y : ℕ) (r : Rect) (ss : Slots) → y < r.y + r.height → edges y (Some r ∷ ss) ≡ (r.y + r.height) ∷ edges y ss
+edges_more y r ss u = cond-true (nat_lt y (r.y + r.height)) ((r.y + r.height) ∷ edges y ss) (edges y ss) (lt-ltb _ _ u)
+
+edges_same : (y : ℕ) (r : Rect) (ss : Slots) → r.y + r.height ≤ y → edges y (Some r ∷ ss) ≡ edges y ss
+edges_same y r ss u = cond-false (nat_lt y (r.y + r.height)) ((r.y + r.height) ∷ edges y ss) (edges y ss) (le-ltb _ _ u)
+
+min_within : (a : ℕ) (es : List ℕ) → fold min a es ≤ a
+min_within a [] = omega arith
+min_within a (e ∷ es) = let p = min_within (min a e) es in omega arith
+
+min_past : (y a : ℕ) (ss : Slots) → y < a → y < fold min a (edges y ss)
+min_past y a [] u = u
+min_past y a (None ∷ ss) u = min_past y a ss u
+min_past y a (Some r ∷ ss) u =
+    ⊎_elim
+    (λ l. let e = ap (fold min a) (edges_more y r ss l) in let p = min_past y (min a (r.y + r.height)) ss (omega arith) in omega arith)
+    (λ l. let e = ap (fold min a) (edges_same y r ss l) in let p = min_past y a ss u in omega arith)
+    (cases_lt y (r.y + r.height))
+
+min_least : (y a : ℕ) (ss : Slots) (i : ℕ) (r : Rect) → slot ss i ≡ Some r → y < r.y + r.height → fold min a (edges y ss) ≤ r.y + r.height
+min_least y a [] i r q u = absurd (none-some r q)
+min_least y a (None ∷ ss) zero r q u = absurd (none-some r q)
+min_least y a (None ∷ ss) (suc i) r q u = min_least y a ss i r q u
+min_least y a (Some t ∷ ss) zero r q u =
+    let z : t ≡ r = cc in
+    let b : t.y + t.height ≡ r.y + r.height = ap (λ k. k.y + k.height) z in
+    let e = ap (fold min a) (edges_more y t ss (omega arith)) in
+    let p = min_within (min a (t.y + t.height)) (edges y ss) in
+    omega arith
+min_least y a (Some t ∷ ss) (suc i) r q u =
+    ⊎_elim
+    (λ l. let e = ap (fold min a) (edges_more y t ss l) in let p = min_least y (min a (t.y + t.height)) ss i r q u in omega arith)
+    (λ l. let e = ap (fold min a) (edges_same y t ss l) in let p = min_least y a ss i r q u in omega arith)
+    (cases_lt y (t.y + t.height))
+
+-- the first edge that counts, with those after it
+edge_first : (y : ℕ) (t : Rect) (ss : Slots) (n : ℕ) → edge_below y (Some t ∷ ss) ≡ Some n → y < t.y + t.height → fold min (t.y + t.height) (edges y ss) ≡ n
+edge_first y t ss n e l = let z = ap (reduce min) (edges_more y t ss l) in cc
+
+edge_later : (y : ℕ) (t : Rect) (ss : Slots) (o : Option ℕ) → edge_below y (Some t ∷ ss) ≡ o → t.y + t.height ≤ y → edge_below y ss ≡ o
+edge_later y t ss o e l = sym (ap (reduce min) (edges_same y t ss l)) ∙ e
+
+pub edge_past : (y : ℕ) (ss : Slots) (n : ℕ) → edge_below y ss ≡ Some n → y < n
+edge_past y [] n e = absurd (none-some n e)
+edge_past y (None ∷ ss) n e = edge_past y ss n e
+edge_past y (Some t ∷ ss) n e =
+    ⊎_elim
+    (λ l. let k = edge_first y t ss n e l in let p = min_past y (t.y + t.height) ss l in omega arith)
+    (λ l. edge_past y ss n (edge_later y t ss (Some n) e l))
+    (cases_lt y (t.y + t.height))
+
+pub edge_least : (y : ℕ) (ss : Slots) (n i : ℕ) (r : Rect) → edge_below y ss ≡ Some n → slot ss i ≡ Some r → y < r.y + r.height → n ≤ r.y + r.height
+edge_least y [] n i r e q u = absurd (none-some r q)
+edge_least y (None ∷ ss) n zero r e q u = absurd (none-some r q)
+edge_least y (None ∷ ss) n (suc i) r e q u = edge_least y ss n i r e q u
+edge_least y (Some t ∷ ss) n zero r e q u =
+    let z : t ≡ r = cc in
+    let b : t.y + t.height ≡ r.y + r.height = ap (λ k. k.y + k.height) z in
+    let k = edge_first y t ss n e (omega arith) in
+    let p = min_within (t.y + t.height) (edges y ss) in
+    omega arith
+edge_least y (Some t ∷ ss) n (suc i) r e q u =
+    ⊎_elim
+    (λ l. let k = edge_first y t ss n e l in let p = min_least y (t.y + t.height) ss i r q u in omega arith)
+    (λ l. edge_least y ss n i r (edge_later y t ss (Some n) e l) q u)
+    (cases_lt y (t.y + t.height))
+
+pub edge_none : (y : ℕ) (ss : Slots) (i : ℕ) (r : Rect) → edge_below y ss ≡ None → slot ss i ≡ Some r → r.y + r.height ≤ y
+edge_none y [] i r e q = absurd (none-some r q)
+edge_none y (None ∷ ss) zero r e q = absurd (none-some r q)
+edge_none y (None ∷ ss) (suc i) r e q = edge_none y ss i r e q
+edge_none y (Some t ∷ ss) zero r e q =
+    let z : t ≡ r = cc in
+    let b : t.y + t.height ≡ r.y + r.height = ap (λ k. k.y + k.height) z in
+    ⊎_elim (λ l. absurd (none-some _ (sym e ∙ ap (reduce min) (edges_more y t ss l)))) (λ l. omega arith) (cases_lt y (t.y + t.height))
+edge_none y (Some t ∷ ss) (suc i) r e q =
+    ⊎_elim (λ l. absurd (none-some _ (sym e ∙ ap (reduce min) (edges_more y t ss l)))) (λ l. edge_none y ss i r (edge_later y t ss None e l) q) (cases_lt y (t.y + t.height))
 
 -- what is clear in the row k is clear in the row y above it, if no lower edge lies between
-slides : (x y k w h n : ℕ) (ss : Slots) → y ≤ k → k < edge_below y n ss → clear (rect x k w h) ss ≡ true → clear (rect x y w h) ss ≡ true
-slides x y k w h n [] u v e = refl
-slides x y k w h n (None ∷ ss) u v e = slides x y k w h n ss u v e
-slides x y k w h n (Some r ∷ ss) u v e =
-    let p = and_parts (misses (rect x k w h) (Some r)) (clear (rect x k w h) ss) e in
-    ⊎_elim
-    (λ m. let q = met_parts (rect x y w h) r m in
-    let l = edge_within y (nearer y n (Some r)) ss in
-    let t = q.top in
-    let b = q.bottom in
-    let top : k < r.y + r.height = grind (arith, nat_tests) in
-    absurd (both_ways _ (not-true _ p.0) (met_from (rect x k w h) r (record { left = q.left; right = q.right; top = top; bottom = omega arith }))))
-    (λ m. and_from _ _ (not_from_false _ m) (slides x y k w h (nearer y n (Some r)) ss u v p.1))
-    (cases_Bool (meets (rect x y w h) r))
+slides : (x y k w h : ℕ) (ss : Slots) → y ≤ k → ((i : ℕ) (r : Rect) → slot ss i ≡ Some r → y < r.y + r.height → k < r.y + r.height) → clear (rect x k w h) ss ≡ true → clear (rect x y w h) ss ≡ true
+slides x y k w h ss u v e =
+    clear_from (rect x y w h) ss (λ i r q. ⊎_elim
+    (λ m. let p = met_parts (rect x y w h) r m in
+    let b = p.bottom in
+    absurd (both_ways _ (clear_at (rect x k w h) ss i r e q) (met_from (rect x k w h) r (record { left = p.left; right = p.right; top = v i r q p.top; bottom = omega arith }))))
+    (λ m. m)
+    (cases_Bool (meets (rect x y w h) r)))
 
 module _ (S : ℕ) (ss : Slots) (w h : ℕ) where
   pub record FreeAt (x y : ℕ) : Type 0 where
@@ -118,7 +185,7 @@ module _ (S : ℕ) (ss : Slots) (w h : ℕ) where
   place_some x y e = cond-true {A = Option (ℕ × ℕ)} (free_at S ss w h y x) (Some (x, y)) None e
 
   none_placed : (x y : ℕ) → place_at S ss w h y x ≡ None → free_at S ss w h y x ≡ false
-  none_placed x y e = ⊎_elim (λ t. absurd (none_some (x, y) (sym (sym (place_some x y t) ∙ e)))) (λ t. t) (cases_Bool (free_at S ss w h y x))
+  none_placed x y e = ⊎_elim (λ t. absurd (none-some (x, y) (sym (sym (place_some x y t) ∙ e)))) (λ t. t) (cases_Bool (free_at S ss w h y x))
 
   -- one row
   module _ (y : ℕ) where
@@ -150,19 +217,21 @@ module _ (S : ℕ) (ss : Slots) (w h : ℕ) where
   abbrev Empty : ℕ → Type 0
   Empty y = (k : ℕ) → k < y → in_row S ss w h k ≡ None
 
-  pub rows_step : (y n : ℕ) (o : Option (ℕ × ℕ)) → o ≡ in_row S ss w h y → is_some o ≡ false → n ≡ edge_below y (S + 1) ss → y + h ≤ S → Empty y → Empty n
-  rows_step y n o i t e l f k u =
-      let q = sym i ∙ none_is o t in
-      ⊎_elim
-      (λ v. f k v)
-      (λ v. row_nowhere k (λ x. ⊎_elim
-      (λ t. let p = free_parts x k t in absurd (both_ways _ (none_in_row y q x) (free_from x y (record { right = p.right; low = l; clear = slides x y k w h (S + 1) ss v (omega arith) p.clear }))))
+  -- what a row below y gives, if no lower edge lies between
+  row_below : (y k : ℕ) → in_row S ss w h y ≡ None → y + h ≤ S → y ≤ k → ((i : ℕ) (r : Rect) → slot ss i ≡ Some r → y < r.y + r.height → k < r.y + r.height) → in_row S ss w h k ≡ None
+  row_below y k q l u v = row_nowhere k (λ x. ⊎_elim
+      (λ t. let p = free_parts x k t in absurd (both_ways _ (none_in_row y q x) (free_from x y (record { right = p.right; low = l; clear = slides x y k w h ss u v p.clear }))))
       (λ t. t)
-      (cases_Bool (free_at S ss w h k x))))
-      (cases_lt k y)
+      (cases_Bool (free_at S ss w h k x)))
+
+  pub rows_step : (y n : ℕ) (o : Option (ℕ × ℕ)) → o ≡ in_row S ss w h y → is_some o ≡ false → edge_below y ss ≡ Some n → y + h ≤ S → Empty y → Empty n
+  rows_step y n o i t e l f k u = ⊎_elim (λ v. f k v) (λ v. row_below y k (sym i ∙ none_is o t) l v (λ j r q m. let p = edge_least y ss n j r e q m in omega arith)) (cases_lt k y)
+
+  pub rows_end : (y : ℕ) (o : Option (ℕ × ℕ)) → o ≡ in_row S ss w h y → is_some o ≡ false → edge_below y ss ≡ None → y + h ≤ S → Empty y → None ≡ least_place S ss w h
+  rows_end y o i t e l f = sym (first_none (in_row S ss w h) (S + 1) 0 (λ k _ _. ⊎_elim (λ v. f k v) (λ v. row_below y k (sym i ∙ none_is o t) l v (λ j r q m. let p = edge_none y ss j r e q in absurd (omega arith))) (cases_lt k y)))
 
   pub rows_found : (y : ℕ) (o : Option (ℕ × ℕ)) → o ≡ in_row S ss w h y → is_some o ≡ true → y + h ≤ S → Empty y → o ≡ least_place S ss w h
-  rows_found y None e t l f = let z : ◌≡◌ {A = ℕ} 0 1 = cc in absurd (omega arith)
+  rows_found y None e t l f = cc
   rows_found y (Some p) e t l f = sym (first_is (in_row S ss w h) (S + 1) 0 y p (omega arith) (omega arith) (λ j _ u. f j u) (sym e))
 
   pub rows_none : (y : ℕ) → S < y + h → Empty y → None ≡ least_place S ss w h
@@ -188,7 +257,7 @@ module _ (S : ℕ) (ss : Slots) (w h : ℕ) where
             above = λ a c u. none_in_row c (f c (omega arith)) a;
             left = λ a u. ap (λ k. free_at S ss w h k a) (sym q) ∙ none_placed a b (G.before a (omega arith) (omega arith));
           })
-          (λ t. absurd (none_some (x, y) (sym (place_none G.at b t) ∙ G.gives)))
+          (λ t. absurd (none-some (x, y) (sym (place_none G.at b t) ∙ G.gives)))
           (cases_Bool (free_at S ss w h b G.at))
 
       rows : Found (in_row S ss w h) (S + 1) 0 (x, y) → First x y

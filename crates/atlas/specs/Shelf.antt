@@ -1,9 +1,10 @@
 -- The shelf atlas: shelves stacked from y = 0 down, each as tall as the picture that opened it.
-use Rattle.std.specs.Prelude.{◌≡◌, ℕ, ◌+◌, ◌<◌, ◌≤◌, min, max, Bool, true, false, cond, ◌&&◌, ◌||◌, ◌⊎◌, List, [], ◌∷◌, ◌++◌, length, take, replicate, is_some, Some, None, Option, ◌==◌, ◌≢◌, nat_le, slice_index, slice_set}
+use Rattle.std.specs.Prelude.{◌≡◌, ℕ, ◌+◌, ◌<◌, ◌≤◌, min, max, Bool, true, false, cond, ◌&&◌, ◌||◌, ◌⊎◌, List, [], ◌∷◌, ◌++◌, length, take, replicate, is_some, Some, None, Option, ◌==◌, ◌≢◌, nat_le, slice_index, slice_set, sum}
 use Rattle.atlas.specs.declared.rect.Rect.{Rect}
 use Rattle.atlas.specs.Rects.{rect}
-use Rattle.atlas.specs.Slots.{Slots, Lies, Separate, slot, vacant, allowed}
-use Rattle.atlas.specs.Search.{or_else}
+use Rattle.atlas.specs.Slots.{Slots, SquareSound, slot, vacant, allowed}
+use Rattle.std.specs.List.{list_all}
+use Rattle.std.specs.Option.{option_or}
 use Rattle.atlas.specs.Kind.{AtlasKind}
 
 pub record Shelved : Type 0 where
@@ -13,8 +14,7 @@ pub record Shelved : Type 0 where
   pub slots : Slots
 
 abbrev pub depth : List ℕ → ℕ
-depth [] = 0
-depth (t ∷ ts) = t + depth ts
+depth ts = sum ts
 
 -- how far the slot's picture reaches to the right, if it stands on the shelf at y
 abbrev pub reach : ℕ → Option Rect → ℕ
@@ -37,7 +37,7 @@ new_shelf S w h y = cond (nat_le w S && nat_le (y + h) S) (Some (0, y)) None
 -- on the first shelf of those from y on that will do, else on a new one below
 abbrev pub chosen : ℕ → Slots → ℕ → ℕ → ℕ → List ℕ → Option (ℕ × ℕ)
 chosen S ss w h y [] = new_shelf S w h y
-chosen S ss w h y (t ∷ ts) = or_else (on_shelf S ss w h y t) (chosen S ss w h (y + t) ts)
+chosen S ss w h y (t ∷ ts) = option_or (on_shelf S ss w h y t) (chosen S ss w h (y + t) ts)
 
 abbrev pub shelf_gives : Shelved → ℕ → ℕ → Option (ℕ × ℕ)
 shelf_gives s w h = cond (allowed s.slots w h) (chosen s.side s.slots w h 0 s.shelves) None
@@ -85,18 +85,13 @@ slot_stands ts None = true
 slot_stands ts (Some r) = nat_le 1 r.width && stands 0 ts r
 
 abbrev pub all_stand : List ℕ → Slots → Bool
-all_stand ts [] = true
-all_stand ts (s ∷ ss) = slot_stands ts s && all_stand ts ss
+all_stand ts ss = list_all (slot_stands ts) ss
 
 abbrev pub all_tall : List ℕ → Bool
-all_tall [] = true
-all_tall (t ∷ ts) = nat_le 1 t && all_tall ts
+all_tall ts = list_all (nat_le 1) ts
 
 pub record ShelfSound (s : Shelved) : Type 0 where
-  pub small : s.side ≤ 8192
-  pub whole : length s.slots ≡ 256
-  pub lies : Lies s.side s.slots
-  pub separate : Separate s.slots
+  pub square : SquareSound s.side s.slots
   pub tall : all_tall s.shelves ≡ true
   pub within : depth s.shelves ≤ s.side
   pub held : all_stand s.shelves s.slots ≡ true

@@ -1,19 +1,20 @@
 -- Shelves: which picture stands on which, which shelves stay, and where a picture goes.
-use Rattle.std.specs.Prelude.{◌≡◌, ℕ, zero, suc, ◌+◌, ◌<◌, ◌≤◌, true, false, cond, ◌&&◌, ◌⊎◌, List, [], ◌∷◌, ◌++◌, length, take, drop, is_some, Some, None, Option, ◌==◌, ◌≢◌, nat_le, slice_index, slice_set, refl}
-use Rattle.std.proofs.Common.{sym, ap, subst, ◌∙◌, inl, inr, ⊎_elim, arith}
-use Rattle.std.proofs.lemmas.List.{take_more, length-take-le, at_drop_more}
-use Rattle.std.proofs.lemmas.Bool.{cases_eq, cases_Bool, cond-true, cond-false, eq-eqb, ne_eqb, eqb-true, leb-true, le-leb, and_parts, and_from, or_cases, or_left, or_right, false≢true}
+use Rattle.std.specs.Prelude.{◌≡◌, ℕ, zero, suc, ◌+◌, ◌<◌, ◌≤◌, max, true, cond, ◌&&◌, ◌⊎◌, List, [], ◌∷◌, ◌++◌, length, take, Some, None, Option, ◌==◌, ◌≢◌, nat_le, slice_set, fold, refl}
+use Rattle.std.proofs.Common.{sym, ap, subst, ◌∙◌, inl, inr, ⊎_elim, arith, length-append}
+use Rattle.std.proofs.lemmas.List.Sums.{sum_by-cons, sum_by_push}
+use Rattle.std.proofs.lemmas.Bool.{cases_eq, cond-true, cond-false, eq-eqb, ne_eqb, eqb-true, leb-true, le-leb, and_parts, and_from, or_cases, or_left, or_right, false≢true}
+use Rattle.std.proofs.lemmas.Option.{none-some, cond_some}
 use Rattle.atlas.specs.declared.rect.Rect.{Rect}
 use Rattle.atlas.specs.Rects.{rect, Apart}
 use Rattle.atlas.specs.Slots.{Slots, slot}
-use Rattle.atlas.specs.Search.{or_else}
+use Rattle.std.specs.Option.{option_or}
 use Rattle.atlas.specs.Shelf.{depth, reach, furthest, on_shelf, chosen, onto, standing, stands, slot_stands, all_stand, all_tall}
-use Rattle.atlas.specs.Searches.{none_some, none_unless, or_else_some, or_else_none}
+use Rattle.atlas.specs.Searches.{none_unless}
 use Rattle.atlas.specs.SlotFacts.{slot_after}
 
 -- the furthest picture of a shelf
 pub furthest_covers : (y : ℕ) (ss : Slots) (i : ℕ) (r : Rect) → slot ss i ≡ Some r → r.y ≡ y → r.x + r.width ≤ furthest y ss
-furthest_covers y [] i r e q = absurd (none_some r e)
+furthest_covers y [] i r e q = absurd (none-some r e)
 furthest_covers y (s ∷ ss) zero r e q = let p = ap (reach y) e ∙ cond-true (r.y == y) (r.x + r.width) 0 (eq-eqb _ _ q) in omega arith
 furthest_covers y (s ∷ ss) (suc i) r e q = let p = furthest_covers y ss i r e q in omega arith
 
@@ -29,6 +30,18 @@ pub furthest_more : (y : ℕ) (ss : Slots) (v : ℕ) (o : Option Rect) → slot 
 furthest_more y [] v o e = omega arith
 furthest_more y (s ∷ ss) zero o e = let p = ap (reach y) e in omega arith
 furthest_more y (s ∷ ss) (suc v) o e = let p = furthest_more y ss v o e in omega arith
+
+-- the same by a pass that keeps the furthest so far
+furthest_from : (y a : ℕ) (ss : Slots) → fold (λ n o. max n (reach y o)) a ss ≡ max a (furthest y ss)
+furthest_from y a [] = omega arith
+furthest_from y a (s ∷ ss) = let p = furthest_from y (max a (reach y s)) ss in omega arith
+
+pub furthest_fold : (y : ℕ) (ss : Slots) → fold (λ n o. max n (reach y o)) 0 ss ≡ furthest y ss
+furthest_fold y ss = let p = furthest_from y 0 ss in omega arith
+
+-- the first shelf's height, and the depth of the others
+pub depth-cons : (t : ℕ) (ts : List ℕ) → depth (t ∷ ts) ≡ t + depth ts
+depth-cons t ts = sum_by-cons (λ x. x) t ts
 
 -- which picture stands on a shelf
 pub stands_below : (y : ℕ) (ts : List ℕ) (r : Rect) → stands y ts r ≡ true → y ≤ r.y
@@ -49,7 +62,7 @@ stands_more y (t ∷ ts) us r e =
 
 pub stands_last : (y : ℕ) (ts : List ℕ) (r : Rect) → r.y ≡ y + depth ts → stands y (ts ++ r.height ∷ []) r ≡ true
 stands_last y [] r e = or_left _ _ (and_from _ _ (eq-eqb r.y y (omega arith)) (le-leb r.height r.height (omega arith)))
-stands_last y (u ∷ ts) r e = or_right (r.y == y && nat_le r.height u) _ (stands_last (y + u) ts r (omega arith))
+stands_last y (u ∷ ts) r e = or_right (r.y == y && nat_le r.height u) _ (stands_last (y + u) ts r (omega (arith, depth-cons u ts)))
 
 -- every live picture has a width, and stands on a shelf
 pub record Stands (ts : List ℕ) (r : Rect) : Type 0 where
@@ -57,7 +70,7 @@ pub record Stands (ts : List ℕ) (r : Rect) : Type 0 where
   pub on : stands 0 ts r ≡ true
 
 pub stand_at : (ts : List ℕ) (ss : Slots) (i : ℕ) (r : Rect) → all_stand ts ss ≡ true → slot ss i ≡ Some r → Stands ts r
-stand_at ts [] i r a e = absurd (none_some r e)
+stand_at ts [] i r a e = absurd (none-some r e)
 stand_at ts (s ∷ ss) zero r a e =
     let p = ap (slot_stands ts) (sym e) ∙ (and_parts (slot_stands ts s) (all_stand ts ss) a).0 in
     let q = and_parts (nat_le 1 r.width) (stands 0 ts r) p in
@@ -84,16 +97,7 @@ tall_take (suc k) (t ∷ ts) e = let p = and_parts (nat_le 1 t) (all_tall ts) e 
 
 pub tall_few : (ts : List ℕ) → all_tall ts ≡ true → length ts ≤ depth ts
 tall_few [] e = omega arith
-tall_few (t ∷ ts) e = let p = and_parts (nat_le 1 t) (all_tall ts) e in let q = leb-true 1 t p.0 in let r = tall_few ts p.1 in omega arith
-
-pub depth_push : (ts : List ℕ) (t : ℕ) → depth (ts ++ t ∷ []) ≡ depth ts + t
-depth_push [] t = omega arith
-depth_push (u ∷ ts) t = let p = depth_push ts t in omega arith
-
-pub depth_take : (k : ℕ) (ts : List ℕ) → depth (take k ts) ≤ depth ts
-depth_take zero ts = omega arith
-depth_take (suc k) [] = omega arith
-depth_take (suc k) (t ∷ ts) = let p = depth_take k ts in omega arith
+tall_few (t ∷ ts) e = let p = and_parts (nat_le 1 t) (all_tall ts) e in let q = leb-true 1 t p.0 in let r = tall_few ts p.1 in omega (arith, depth-cons t ts)
 
 -- which shelves stay
 onto_cases : (f n : ℕ) → ((n ≡ 0) × (f ≡ 0) × (onto f n ≡ 0)) ⊎ ((onto f n ≡ suc n) × (1 ≤ n + f))
@@ -128,7 +132,7 @@ module _ (ss : Slots) where
       let p = at_same (y + 0) y (omega arith) in
       ⊎_elim (λ c. absurd (let q = c.1 in omega arith)) (λ c. c.0) (onto_cases (furthest y ss) 0)
   standing_last y (u ∷ ts) t h =
-      let p = at_same (y + (u + depth ts)) ((y + u) + depth ts) (omega arith) in
+      let p = at_same (y + depth (u ∷ ts)) ((y + u) + depth ts) (omega (arith, depth-cons u ts)) in
       let q = standing_last (y + u) ts t (omega arith) in
       ⊎_elim (λ c. absurd (let k = c.0 in omega arith)) (λ c. c.0 ∙ ap suc q) (onto_cases (furthest y ss) (standing ss (y + u) (ts ++ t ∷ [])))
 
@@ -137,7 +141,7 @@ module _ (ss : Slots) where
       let p = at_same (y + 0) y (omega arith) in
       ⊎_elim (λ c. c.2) (λ c. absurd (let q = c.1 in omega arith)) (onto_cases (furthest y ss) 0)
   standing_less y (u ∷ ts) t h =
-      let p = at_same (y + (u + depth ts)) ((y + u) + depth ts) (omega arith) in
+      let p = at_same (y + depth (u ∷ ts)) ((y + u) + depth ts) (omega (arith, depth-cons u ts)) in
       ap (onto (furthest y ss)) (standing_less (y + u) ts t (omega arith))
 
   -- the shelves past those that stand are empty, and the last that stands is not
@@ -147,7 +151,7 @@ module _ (ss : Slots) where
       let p = at_same (y + 0) y (omega arith) in
       ⊎_elim (λ c. let q = c.1 in omega arith) (λ c. absurd (let q = c.0 in omega arith)) (onto_cases (furthest y ss) (standing ss (y + t) ts))
   standing_gone y (t ∷ ts) (suc k) a b =
-      let p = at_same (y + (t + depth (take k ts))) ((y + t) + depth (take k ts)) (omega arith) in
+      let p = at_same (y + depth (t ∷ take k ts)) ((y + t) + depth (take k ts)) (omega (arith, depth-cons t (take k ts))) in
       let l : standing ss (y + t) ts ≤ k = ⊎_elim (λ c. let q = c.0 in omega arith) (λ c. let q = c.0 in omega arith) (onto_cases (furthest y ss) (standing ss (y + t) ts)) in
       p ∙ standing_gone (y + t) ts k l (omega arith)
 
@@ -157,7 +161,7 @@ module _ (ss : Slots) where
       let p = at_same (y + 0) y (omega arith) in
       ⊎_elim (λ c. absurd (let q = c.2 in omega arith)) (λ c. let q = c.0 in let r = c.1 in omega arith) (onto_cases (furthest y ss) (standing ss (y + t) ts))
   standing_end y (t ∷ ts) (suc k) e =
-      let p = at_same (y + (t + depth (take k ts))) ((y + t) + depth (take k ts)) (omega arith) in
+      let p = at_same (y + depth (t ∷ take k ts)) ((y + t) + depth (take k ts)) (omega (arith, depth-cons t (take k ts))) in
       let l : standing ss (y + t) ts ≡ suc k = ⊎_elim (λ c. absurd (let q = c.2 in omega arith)) (λ c. let q = c.0 in omega arith) (onto_cases (furthest y ss) (standing ss (y + t) ts)) in
       let q = standing_end (y + t) ts k l in
       omega arith
@@ -195,24 +199,19 @@ standing_more ss us y (t ∷ ts) f e =
     (onto_cases (furthest y ss) (standing ss (y + t) ts))
 
 -- the code's walk up from the last shelf
-module _ (ss : Slots) (ts : List ℕ) (n k : ℕ) (l : n ≤ length ts) (e : n ≡ k + 1) where
-  last_of : take n ts ≡ take k ts ++ slice_index ts k ∷ []
-  last_of = ap (λ m. take m ts) e ∙ take_more ts k 0 (omega arith)
+module _ (ss : Slots) (ts us : List ℕ) (t : ℕ) (e : ts ≡ us ++ t ∷ []) where
+  pub last_depth : depth ts ≡ depth us + t
+  last_depth = ap depth e ∙ sum_by_push (λ x. x) us t
 
-  pub last_depth : depth (take n ts) ≡ depth (take k ts) + slice_index ts k
-  last_depth = ap depth last_of ∙ depth_push (take k ts) (slice_index ts k)
-
-  pub last_stands : 1 ≤ furthest (depth (take k ts)) ss → standing ss 0 (take n ts) ≡ n
+  pub last_stands : 1 ≤ furthest (depth us) ss → standing ss 0 ts ≡ length ts
   last_stands f =
-      let p = at_same ss (0 + depth (take k ts)) (depth (take k ts)) (omega arith) in
-      let q = standing_last ss 0 (take k ts) (slice_index ts k) (omega arith) in
-      let r = length-take-le k ts (omega arith) in
-      ap (standing ss 0) last_of ∙ (q ∙ omega arith)
+      let p = at_same ss (0 + depth us) (depth us) (omega arith) in
+      ap (standing ss 0) e ∙ (standing_last ss 0 us t (omega arith) ∙ sym (ap length e ∙ length-append us (t ∷ []) ∙ omega arith))
 
-  pub last_goes : furthest (depth (take k ts)) ss ≡ 0 → standing ss 0 (take n ts) ≡ standing ss 0 (take k ts)
+  pub last_goes : furthest (depth us) ss ≡ 0 → standing ss 0 ts ≡ standing ss 0 us
   last_goes f =
-      let p = at_same ss (0 + depth (take k ts)) (depth (take k ts)) (omega arith) in
-      ap (standing ss 0) last_of ∙ standing_less ss 0 (take k ts) (slice_index ts k) (omega arith)
+      let p = at_same ss (0 + depth us) (depth us) (omega arith) in
+      ap (standing ss 0) e ∙ standing_less ss 0 us t (omega arith)
 
 -- a place that depends on two fits
 module _ (a b c d : ℕ) (p : ℕ × ℕ) where
@@ -224,10 +223,9 @@ module _ (a b c d : ℕ) (p : ℕ × ℕ) where
 
   pub fit_parts : (q : ℕ × ℕ) → given ≡ Some q → (a ≤ b) × (c ≤ d) × (p ≡ q)
   fit_parts q e =
-      ⊎_elim
-      (λ t. let u = and_parts (nat_le a b) (nat_le c d) t in (leb-true _ _ u.0, leb-true _ _ u.1, let f = cond-true {A = Option (ℕ × ℕ)} (nat_le a b && nat_le c d) (Some p) None t in cc))
-      (λ t. absurd (none_some q (sym (cond-false {A = Option (ℕ × ℕ)} (nat_le a b && nat_le c d) (Some p) None t) ∙ e)))
-      (cases_Bool (nat_le a b && nat_le c d))
+      let t = cond_some (nat_le a b && nat_le c d) p q e in
+      let u = and_parts (nat_le a b) (nat_le c d) t.0 in
+      (leb-true _ _ u.0, leb-true _ _ u.1, t.1)
 
   pub fit_none : (a ≤ b → c ≤ d → ⊥) → given ≡ None
   fit_none f = none_unless given (λ q e. let u = fit_parts q e in f u.0 u.1)
@@ -245,14 +243,14 @@ module _ (S : ℕ) (ss : Slots) (w h : ℕ) where
       record { right = omega (arith, p.0); spot = inr (omega arith, omega (arith, p.1)) }
   goes y (t ∷ ts) a b e = look (on_shelf S ss w h y t) refl e (goes (y + t) ts a b)
     where
-      look : (o : Option (ℕ × ℕ)) → on_shelf S ss w h y t ≡ o → or_else o (chosen S ss w h (y + t) ts) ≡ Some (a, b) → (chosen S ss w h (y + t) ts ≡ Some (a, b) → Goes (y + t) ts a b) → Goes y (t ∷ ts) a b
+      look : (o : Option (ℕ × ℕ)) → on_shelf S ss w h y t ≡ o → option_or o (chosen S ss w h (y + t) ts) ≡ Some (a, b) → (chosen S ss w h (y + t) ts ≡ Some (a, b) → Goes (y + t) ts a b) → Goes y (t ∷ ts) a b
       look (Some q) f e rest =
           let p = fit_parts h t (furthest y ss + w) S (furthest y ss, y) (a, b) (f ∙ e) in
           let j = ap (λ z. z.0) p.2 in let k = ap (λ z. z.1) p.2 in
-          record { right = omega (arith, p.1); spot = inl (or_left _ _ (and_from _ _ (eq-eqb b y (sym k)) (le-leb _ _ p.0)), omega (arith, p.0)) }
+          record { right = omega (arith, p.1); spot = inl (or_left _ _ (and_from _ _ (eq-eqb b y (sym k)) (le-leb _ _ p.0)), omega (arith, p.0, depth-cons t ts)) }
       look None f e rest =
           let g = rest e in
-          record { right = g.right; spot = ⊎_elim (λ c. inl (or_right (b == y && nat_le h t) _ c.0, let k = c.1 in omega arith)) (λ c. inr (let k = c.0 in omega arith, c.1)) g.spot }
+          record { right = g.right; spot = ⊎_elim (λ c. inl (or_right (b == y && nat_le h t) _ c.0, let k = c.1 in omega (arith, depth-cons t ts))) (λ c. inr (let k = c.0 in omega (arith, depth-cons t ts), c.1)) g.spot }
 
   pub goes_clear : (y : ℕ) (ts : List ℕ) (a b i : ℕ) (r : Rect) → slot ss i ≡ Some r → (r.y + r.height ≤ y) ⊎ (stands y ts r ≡ true) → chosen S ss w h y ts ≡ Some (a, b) → Apart (rect a b w h) r
   goes_clear y [] a b i r s c e =
@@ -261,7 +259,7 @@ module _ (S : ℕ) (ss : Slots) (w h : ℕ) where
       ⊎_elim (λ u. inr (inr (inr (omega arith)))) (λ u. absurd (false≢true u)) c
   goes_clear y (t ∷ ts) a b i r s c e = look (on_shelf S ss w h y t) refl e (goes_clear (y + t) ts a b i r s)
     where
-      look : (o : Option (ℕ × ℕ)) → on_shelf S ss w h y t ≡ o → or_else o (chosen S ss w h (y + t) ts) ≡ Some (a, b) → ((r.y + r.height ≤ y + t) ⊎ (stands (y + t) ts r ≡ true) → chosen S ss w h (y + t) ts ≡ Some (a, b) → Apart (rect a b w h) r) → Apart (rect a b w h) r
+      look : (o : Option (ℕ × ℕ)) → on_shelf S ss w h y t ≡ o → option_or o (chosen S ss w h (y + t) ts) ≡ Some (a, b) → ((r.y + r.height ≤ y + t) ⊎ (stands (y + t) ts r ≡ true) → chosen S ss w h (y + t) ts ≡ Some (a, b) → Apart (rect a b w h) r) → Apart (rect a b w h) r
       look (Some q) f e rest =
           let p = fit_parts h t (furthest y ss + w) S (furthest y ss, y) (a, b) (f ∙ e) in
           let j = ap (λ z. z.0) p.2 in let k = ap (λ z. z.1) p.2 in
@@ -281,14 +279,3 @@ module _ (S : ℕ) (ss : Slots) (w h : ℕ) where
           (λ v. inr v)
           (or_cases _ _ d))
           c) e
-
-  -- the code's walk over the shelves
-  pub walk_found : (y : ℕ) (ts : List ℕ) (i : ℕ) (o : Option (ℕ × ℕ)) → i < length ts → o ≡ on_shelf S ss w h y (slice_index ts i) → is_some o ≡ true → chosen S ss w h y (drop i ts) ≡ o
-  walk_found y ts i o l e t =
-      at_drop_more (chosen S ss w h y) ts i 0 l
-      ∙ (ap (λ p. or_else p (chosen S ss w h (y + slice_index ts i) (drop (i + 1) ts))) (sym e) ∙ or_else_some o (chosen S ss w h (y + slice_index ts i) (drop (i + 1) ts)) t)
-
-  pub walk_on : (y : ℕ) (ts : List ℕ) (i : ℕ) (o : Option (ℕ × ℕ)) → i < length ts → o ≡ on_shelf S ss w h y (slice_index ts i) → is_some o ≡ false → chosen S ss w h y (drop i ts) ≡ chosen S ss w h (y + slice_index ts i) (drop (i + 1) ts)
-  walk_on y ts i o l e t =
-      at_drop_more (chosen S ss w h y) ts i 0 l
-      ∙ (ap (λ p. or_else p (chosen S ss w h (y + slice_index ts i) (drop (i + 1) ts))) (sym e) ∙ or_else_none o (chosen S ss w h (y + slice_index ts i) (drop (i + 1) ts)) t)

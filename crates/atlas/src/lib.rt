@@ -2,14 +2,12 @@
 #![tactic(auto)]
 
 mod atlas;
-mod corner;
 mod corner_atlas;
 mod rect;
 mod search;
-mod shelf;
 mod shelf_atlas;
 mod shelves;
-mod slots;
+mod square;
 
 pub use atlas::Atlas;
 pub use corner_atlas::CornerAtlas;

@@ -17,7 +17,7 @@ impl Rect {
         ensures is { result ≡ self.x + self.width }
         ensures small { result < 2 ^ 33 }
     {
-        self.x as u64 + self.width as u64
+        u64::from(self.x) + u64::from(self.width)
     }
 
     // The row past its lower edge.
@@ -25,17 +25,16 @@ impl Rect {
         ensures is { result ≡ self.y + self.height }
         ensures small { result < 2 ^ 33 }
     {
-        self.y as u64 + self.height as u64
+        u64::from(self.y) + u64::from(self.height)
     }
 
     // Whether it shares a point with a picture of `width` by `height` at `x` and `y`.
-    pub(crate) fn meets(self, x: u64, y: u64, width: u64, height: u64) -> bool
-        requires { (x < 2 ^ 40) × ((y < 2 ^ 40) × ((width < 2 ^ 40) × (height < 2 ^ 40))) }
+    pub(crate) fn meets(self, x: u64, y: u64, width: u32, height: u32) -> bool
         ensures { result ≡ meeting (rect x y width height) self }
     {
         x < self.right()
-            && (self.x as u64) < x + width
+            && u64::from(self.x) < x + u64::from(width)
             && y < self.bottom()
-            && (self.y as u64) < y + height
+            && u64::from(self.y) < y + u64::from(height)
     }
 }

@@ -1,5 +1,5 @@
 -- What a bounded list holds, and what it has room for.
-use Rattle.std.specs.Prelude.{◌≡◌, ℕ, ◌+◌, min, Bool, List, [], length, vec_items, nat_le}
+use Rattle.std.specs.Prelude.{◌≡◌, ℕ, ◌+◌, min, Bool, List, [], ◌++◌, length, vec_items, nat_le}
 use Rattle.bounded.specs.declared.bounded_vec.BoundedVec.{BoundedVec}
 
 module _ {T : Type 0} where
@@ -17,3 +17,9 @@ module _ {T : Type 0} where
   pub record Fresh (l : BoundedVec T) (n : ℕ) : Type 0 where
     pub items : items l ≡ []
     pub limit : l.limit ≡ min n 1000000
+
+  -- a list after some entries were put at its end
+  pub record Extends (old new : BoundedVec T) (more : List T) : Type 0 where
+    pub items : items new ≡ items old ++ more
+    pub len : len new ≡ len old + length more
+    pub limit : new.limit ≡ old.limit

@@ -2,7 +2,6 @@
 #![tactic(auto)]
 
 mod bounded_vec;
-mod calls;
 mod mapping;
 
 pub use bounded_vec::BoundedVec;

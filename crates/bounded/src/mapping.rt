@@ -1,5 +1,5 @@
 ghost use Rattle.std.specs.Prelude.{◌≡◌, ℕ, ◌+◌, ◌<◌, ◌≤◌, ◌++◌, map, length, slice_index_or};
-ghost use Rattle.bounded.specs.Held.{items as items_of, len as len_of};
+ghost use Rattle.bounded.specs.Held.{items as items_of, len as len_of, Extends};
 
 use crate::bounded_vec::BoundedVec;
 
@@ -19,9 +19,8 @@ pub trait Mapping<T, U> {
 pub fn extend_mapped<T, U, M: Mapping<T, U>>(to: &mut BoundedVec<U>, from: &[T], by: &M)
     requires room { len_of to.old + length from.now ≤ to.old.limit }
     requires fits { (k : ℕ) (d : T) → k < length from.now → M.Mapping.fit by.now (slice_index_or from.now k d) }
-    ensures items { items_of to.new ≡ items_of to.old ++ map (M.Mapping.image by.now) from.now }
+    ensures extended { Extends to.old to.new (map (M.Mapping.image by.now) from.now) }
     ensures len { len_of to.new ≡ len_of to.old + length from.now }
-    ensures limit { to.new.limit ≡ to.old.limit }
 {
     for x in from {
         to.push(by.map(x));
@@ -32,9 +31,8 @@ pub fn extend_mapped<T, U, M: Mapping<T, U>>(to: &mut BoundedVec<U>, from: &[T],
 pub fn append_mapped<T, U, M: Mapping<T, U>>(to: &mut BoundedVec<U>, from: &BoundedVec<T>, by: &M)
     requires room { len_of to.old + len_of from.now ≤ to.old.limit }
     requires fits { (k : ℕ) (d : T) → k < length (items_of from.now) → M.Mapping.fit by.now (slice_index_or (items_of from.now) k d) }
-    ensures items { items_of to.new ≡ items_of to.old ++ map (M.Mapping.image by.now) (items_of from.now) }
+    ensures extended { Extends to.old to.new (map (M.Mapping.image by.now) (items_of from.now)) }
     ensures len { len_of to.new ≡ len_of to.old + len_of from.now }
-    ensures limit { to.new.limit ≡ to.old.limit }
 {
     extend_mapped(to, from.as_slice(), by);
 }

@@ -1,9 +1,10 @@
--- Numbers and transforms as bytes, the lowest first.
+-- Numbers, transforms and styles as bytes, the lowest first.
 use Rattle.std.specs.Prelude.{ℕ, ◌/◌, ◌%◌, List, [], ◌∷◌, to_bits, Float}
 use Rattle.std.specs.Float.{binary32}
 use Rattle.std.specs.List.{flat_map}
 use Rattle.math.specs.Product.{at}
 use Rattle.math.specs.declared.transform.Transform.{Transform}
+use Rattle.records.specs.declared.style.Style.{Style}
 
 abbrev pub byte : ℕ → List ℕ
 byte b = b ∷ []
@@ -28,3 +29,6 @@ transform_bytes t =
 
 abbrev pub transforms_bytes : List Transform → List ℕ
 transforms_bytes = flat_map transform_bytes
+
+abbrev pub style_bytes : Style → List ℕ
+style_bytes s = words_bytes (s.flags_and_miter_limit ∷ s.line_width ∷ [])

@@ -1,1 +1,4 @@
 pub mod Entries
+pub mod Stream
+pub mod Verb
+pub mod Subject

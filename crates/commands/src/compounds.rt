@@ -1,26 +1,31 @@
-use crate::floats::floats;
-use crate::values::Value;
+use crate::fields::split_once;
+use crate::values::{Number, Value};
 use draw::{Color, ColorStop};
-use job_text::{Parts, decimal_u32, float, hex_word};
+use job_text::{Flaw, Parts};
 use math::Transform;
 use records::{Glyph, Style};
+use std::alloc::Global;
 
-// The values that are numbers with a colon between.
+// The values that are others with a colon between.
 
-impl Value for [f32; 2] {
-    ghost reads = { λ _ _. Unit {0} };
-
-    fn read(text: &[u8]) -> Option<[f32; 2]> {
-        floats::<2>(text)
+impl<T: Value + Default + Copy, const N: usize> Value for [T; N] {
+    fn read(heap: Global, text: &[u8]) -> Result<[T; N], Flaw> {
+        let mut parts = Parts::new(b':', text);
+        let mut values = [T::default(); N];
+        for value in values.iter_mut() {
+            *value = T::read(heap, parts.next().ok_or(Flaw::Form)?)?;
+        }
+        if parts.next().is_some() {
+            return Err(Flaw::Form);
+        }
+        Ok(values)
     }
 }
 
 impl Value for Transform {
-    ghost reads = { λ _ _. Unit {0} };
-
-    fn read(text: &[u8]) -> Option<Transform> {
-        let [a, b, c, d, e, f] = floats::<6>(text)?;
-        Some(Transform {
+    fn read(heap: Global, text: &[u8]) -> Result<Transform, Flaw> {
+        let [a, b, c, d, e, f]: [f32; 6] = Value::read(heap, text)?;
+        Ok(Transform {
             matrix: [a, b, c, d],
             translation: [e, f],
         })
@@ -28,11 +33,9 @@ impl Value for Transform {
 }
 
 impl Value for ColorStop {
-    ghost reads = { λ _ _. Unit {0} };
-
-    fn read(text: &[u8]) -> Option<ColorStop> {
-        let [offset, r, g, b, a] = floats::<5>(text)?;
-        Some(ColorStop {
+    fn read(heap: Global, text: &[u8]) -> Result<ColorStop, Flaw> {
+        let [offset, r, g, b, a]: [f32; 5] = Value::read(heap, text)?;
+        Ok(ColorStop {
             offset,
             color: Color { r, g, b, a },
         })
@@ -40,51 +43,20 @@ impl Value for ColorStop {
 }
 
 impl Value for Style {
-    ghost reads = { λ _ _. Unit {0} };
-
-    fn read(text: &[u8]) -> Option<Style> {
-        let mut parts = Parts::new(b':', text);
-        let flags_and_miter_limit = hex_word(parts.part()?)?;
-        let line_width = hex_word(parts.part()?)?;
-        if parts.part().is_some() {
-            None
-        } else {
-            Some(Style {
-                flags_and_miter_limit,
-                line_width,
-            })
-        }
+    fn read(heap: Global, text: &[u8]) -> Result<Style, Flaw> {
+        let [flags_and_miter_limit, line_width]: [u32; 2] = Value::read(heap, text)?;
+        Ok(Style {
+            flags_and_miter_limit,
+            line_width,
+        })
     }
 }
 
 impl Value for Glyph {
-    ghost reads = { λ _ _. Unit {0} };
-
-    fn read(text: &[u8]) -> Option<Glyph> {
-        let mut parts = Parts::new(b':', text);
-        let id = decimal_u32(parts.part()?)?;
-        let x = float(parts.part()?)?;
-        let y = float(parts.part()?)?;
-        if parts.part().is_some() {
-            None
-        } else {
-            Some(Glyph { id, x, y })
-        }
-    }
-}
-
-// Width and height.
-impl Value for (u32, u32) {
-    ghost reads = { λ _ _. Unit {0} };
-
-    fn read(text: &[u8]) -> Option<(u32, u32)> {
-        let mut parts = Parts::new(b':', text);
-        let width = decimal_u32(parts.part()?)?;
-        let height = decimal_u32(parts.part()?)?;
-        if parts.part().is_some() {
-            None
-        } else {
-            Some((width, height))
-        }
+    fn read(heap: Global, text: &[u8]) -> Result<Glyph, Flaw> {
+        let (id, place) = split_once(b':', text).ok_or(Flaw::Form)?;
+        let Number(id) = Value::read(heap, id)?;
+        let [x, y]: [f32; 2] = Value::read(heap, place)?;
+        Ok(Glyph { id, x, y })
     }
 }

@@ -1,7 +1,10 @@
+ghost use Rattle.commands.specs.Subject.{BeginsWithName};
+
+use crate::command::{Command, read_name};
 use crate::fields::Fields;
-use crate::lines::read_name;
 use crate::reason::Reason;
-use crate::values::Value;
+use crate::values::Number;
+use crate::verb::Verb;
 use draw::ColorStop;
 use job_text::{Line, Name};
 use records::DrawLinearGradient;
@@ -13,21 +16,28 @@ pub struct GradientCommand {
     pub scene: Name,
     pub gradient: DrawLinearGradient,
     pub alpha: f32,
+    // A number, as `encode_linear_gradient` takes it and refuses it.
     pub extend: u32,
     pub stops: Vec<ColorStop>,
 }
 
-impl GradientCommand {
-    fn from_fields(
-        heap: Global,
-        scene: Name,
-        fields: &Fields<'_>,
-    ) -> Result<GradientCommand, Reason> {
+impl Command for GradientCommand {
+    const VERB: Verb = Verb::Gradient;
+
+    type Subject = Name;
+
+    ghost subject_of = { λ c. c.scene };
+
+    ghost begins_with = { BeginsWithName };
+
+    fn read(heap: Global, line: &mut Line<'_>) -> Result<GradientCommand, Reason> {
+        let scene = read_name(line)?;
+        let fields = Fields::read(heap, line, &["p0", "p1", "stops", "alpha", "extend"])?;
         let p0 = fields.needed("p0")?;
         let p1 = fields.needed("p1")?;
         let alpha = fields.needed("alpha")?;
-        let extend = fields.number("extend")?;
-        let stops = fields.needed_list(heap, "stops")?;
+        let Number(extend) = fields.needed("extend")?;
+        let stops = fields.needed("stops")?;
         Ok(GradientCommand {
             scene,
             gradient: DrawLinearGradient { p0, p1 },
@@ -37,9 +47,7 @@ impl GradientCommand {
         })
     }
 
-    pub fn read(heap: Global, line: &mut Line<'_>) -> Result<GradientCommand, Reason> {
-        let scene = read_name(line)?;
-        let fields = Fields::read(heap, line, &["p0", "p1", "stops", "alpha", "extend"])?;
-        GradientCommand::from_fields(heap, scene, &fields)
+    fn subject(&self) -> Name {
+        self.scene
     }
 }

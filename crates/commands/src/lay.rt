@@ -1,7 +1,10 @@
+ghost use Rattle.commands.specs.Subject.{BeginsWithName};
+
+use crate::command::{Command, read_name};
 use crate::fields::Fields;
-use crate::lines::read_name;
 use crate::reason::Reason;
-use crate::values::Value;
+use crate::values::Number;
+use crate::verb::Verb;
 use job_text::{Line, Name};
 use math::Transform;
 use records::{Counts, Streams, Style};
@@ -13,10 +16,10 @@ pub struct LayCommand {
     pub scene: Name,
     pub counts: Counts,
     pub flags: u32,
-    path_tags: Vec<u8>,
     path_data: Vec<u32>,
     draw_tags: Vec<u32>,
     draw_data: Vec<u32>,
+    path_tags: Vec<u8>,
     transforms: Vec<Transform>,
     styles: Vec<Style>,
 }
@@ -35,63 +38,52 @@ const KEYS: [&str; 11] = [
     "flags",
 ];
 
+fn count(fields: &Fields<'_>, key: &'static str) -> Result<u32, Reason> {
+    let Number(count) = fields.optional(key)?.unwrap_or(Number(0));
+    Ok(count)
+}
+
 fn read_counts(fields: &Fields<'_>) -> Result<Counts, Reason> {
-    let n_paths = fields.count("paths")?;
-    let n_path_segments = fields.count("segments")?;
-    let n_clips = fields.count("clips")?;
-    let n_open_clips = fields.count("open_clips")?;
     Ok(Counts {
-        n_paths,
-        n_path_segments,
-        n_clips,
-        n_open_clips,
+        n_paths: count(fields, "paths")?,
+        n_path_segments: count(fields, "segments")?,
+        n_clips: count(fields, "clips")?,
+        n_open_clips: count(fields, "open_clips")?,
     })
 }
 
-impl LayCommand {
-    fn new(heap: Global, scene: Name, counts: Counts, flags: u32) -> LayCommand {
-        LayCommand {
-            scene,
-            counts,
-            flags,
-            path_tags: Vec::new(heap),
-            path_data: Vec::new(heap),
-            draw_tags: Vec::new(heap),
-            draw_data: Vec::new(heap),
-            transforms: Vec::new(heap),
-            styles: Vec::new(heap),
-        }
-    }
+impl Command for LayCommand {
+    const VERB: Verb = Verb::Lay;
 
-    fn read_words(&mut self, heap: Global, fields: &Fields<'_>) -> Result<(), Reason> {
-        self.path_data = fields.list(heap, "path_data")?;
-        self.draw_tags = fields.list(heap, "draw_tags")?;
-        self.draw_data = fields.list(heap, "draw_data")?;
-        Ok(())
-    }
+    type Subject = Name;
 
-    fn read_records(&mut self, heap: Global, fields: &Fields<'_>) -> Result<(), Reason> {
-        self.path_tags = fields.bytes(heap, "path_tags")?;
-        self.transforms = fields.list(heap, "transforms")?;
-        self.styles = fields.list(heap, "styles")?;
-        Ok(())
-    }
+    ghost subject_of = { λ c. c.scene };
 
-    fn from_fields(heap: Global, scene: Name, fields: &Fields<'_>) -> Result<LayCommand, Reason> {
-        let counts = read_counts(fields)?;
-        let flags = fields.optional::<u32>("flags")?.unwrap_or(0);
-        let mut lay = LayCommand::new(heap, scene, counts, flags);
-        lay.read_words(heap, fields)?;
-        lay.read_records(heap, fields)?;
-        Ok(lay)
-    }
+    ghost begins_with = { BeginsWithName };
 
-    pub fn read(heap: Global, line: &mut Line<'_>) -> Result<LayCommand, Reason> {
+    fn read(heap: Global, line: &mut Line<'_>) -> Result<LayCommand, Reason> {
         let scene = read_name(line)?;
         let fields = Fields::read(heap, line, &KEYS)?;
-        LayCommand::from_fields(heap, scene, &fields)
+        // In this order: the first wrong value is the one reported.
+        Ok(LayCommand {
+            scene,
+            counts: read_counts(&fields)?,
+            flags: fields.optional("flags")?.unwrap_or(0),
+            path_data: fields.list("path_data")?,
+            draw_tags: fields.list("draw_tags")?,
+            draw_data: fields.list("draw_data")?,
+            path_tags: fields.list("path_tags")?,
+            transforms: fields.list("transforms")?,
+            styles: fields.list("styles")?,
+        })
     }
 
+    fn subject(&self) -> Name {
+        self.scene
+    }
+}
+
+impl LayCommand {
     pub fn streams(&self) -> Streams<'_> {
         Streams {
             path_tags: self.path_tags.as_slice(),

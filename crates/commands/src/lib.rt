@@ -1,29 +1,34 @@
 // The commands of a job: each line read into one, or a reason why it is none.
 #![tactic(auto)]
 
+mod append;
+mod command;
 mod compounds;
 mod fields;
-mod floats;
 mod gradient;
 mod lay;
-mod lines;
 mod lists;
-mod others;
 mod picture;
+mod plain;
 mod reason;
 mod run;
 mod scene;
+mod show;
 mod stream;
 mod values;
 mod verb;
+mod view;
 
+pub use append::{AppendCommand, BothNames};
+pub use command::Command;
 pub use gradient::GradientCommand;
 pub use lay::LayCommand;
-pub use lines::{read_only_name, read_only_stream};
-pub use others::{AppendCommand, PlainCommand};
 pub use picture::PictureCommand;
+pub use plain::PlainCommand;
 pub use reason::Reason;
 pub use run::RunCommand;
 pub use scene::SceneCommand;
+pub use show::ShowCommand;
 pub use stream::Stream;
 pub use verb::Verb;
+pub use view::ViewCommand;

@@ -1,7 +1,10 @@
+ghost use Rattle.commands.specs.Subject.{BeginsWithName};
+
+use crate::command::{Command, read_name};
 use crate::fields::Fields;
-use crate::lines::read_name;
 use crate::reason::Reason;
-use crate::values::Value;
+use crate::values::Number;
+use crate::verb::Verb;
 use job_text::{Line, Name};
 use records::{Image, ImageSampler};
 use std::alloc::Global;
@@ -29,9 +32,9 @@ const KEYS: [&str; 9] = [
 
 fn read_image(fields: &Fields<'_>) -> Result<Image, Reason> {
     let id = fields.needed("id")?;
-    let (width, height) = fields.needed("size")?;
-    let format = fields.number("format")?;
-    let alpha_type = fields.number("alpha_type")?;
+    let [Number(width), Number(height)]: [Number; 2] = fields.needed("size")?;
+    let Number(format) = fields.needed("format")?;
+    let Number(alpha_type) = fields.needed("alpha_type")?;
     Ok(Image {
         id,
         width,
@@ -42,9 +45,9 @@ fn read_image(fields: &Fields<'_>) -> Result<Image, Reason> {
 }
 
 fn read_sampler(fields: &Fields<'_>) -> Result<ImageSampler, Reason> {
-    let x_extend = fields.number("x_extend")?;
-    let y_extend = fields.number("y_extend")?;
-    let quality = fields.number("quality")?;
+    let Number(x_extend) = fields.needed("x_extend")?;
+    let Number(y_extend) = fields.needed("y_extend")?;
+    let Number(quality) = fields.needed("quality")?;
     let alpha = fields.needed("sampler_alpha")?;
     Ok(ImageSampler {
         x_extend,
@@ -54,18 +57,27 @@ fn read_sampler(fields: &Fields<'_>) -> Result<ImageSampler, Reason> {
     })
 }
 
-impl PictureCommand {
-    pub fn read(heap: Global, line: &mut Line<'_>) -> Result<PictureCommand, Reason> {
+impl Command for PictureCommand {
+    const VERB: Verb = Verb::Picture;
+
+    type Subject = Name;
+
+    ghost subject_of = { λ c. c.scene };
+
+    ghost begins_with = { BeginsWithName };
+
+    fn read(heap: Global, line: &mut Line<'_>) -> Result<PictureCommand, Reason> {
         let scene = read_name(line)?;
         let fields = Fields::read(heap, line, &KEYS)?;
-        let image = read_image(&fields)?;
-        let sampler = read_sampler(&fields)?;
-        let alpha = fields.needed("alpha")?;
         Ok(PictureCommand {
             scene,
-            image,
-            sampler,
-            alpha,
+            image: read_image(&fields)?,
+            sampler: read_sampler(&fields)?,
+            alpha: fields.needed("alpha")?,
         })
+    }
+
+    fn subject(&self) -> Name {
+        self.scene
     }
 }

@@ -1,7 +1,10 @@
+ghost use Rattle.commands.specs.Subject.{BeginsWithName};
+
+use crate::command::{Command, read_name};
 use crate::fields::Fields;
-use crate::lines::read_name;
 use crate::reason::Reason;
-use crate::values::Value;
+use crate::values::Number;
+use crate::verb::Verb;
 use job_text::{Line, Name};
 use records::{Glyph, RunAttributes};
 use std::alloc::Global;
@@ -25,32 +28,38 @@ const KEYS: [&str; 7] = [
 ];
 
 fn read_attributes(fields: &Fields<'_>) -> Result<RunAttributes, Reason> {
-    let font = fields.number("font")?;
-    let style = fields.number("style")?;
-    let font_size = fields.needed("size")?;
-    let transform = fields.needed("transform")?;
-    let glyph_transform = fields.optional("glyph_transform")?;
-    let brush_transform = fields.optional("brush_transform")?;
+    let Number(font) = fields.needed("font")?;
+    let Number(style) = fields.needed("style")?;
     Ok(RunAttributes {
         font,
         style,
-        font_size,
-        transform,
-        glyph_transform,
-        brush_transform,
+        font_size: fields.needed("size")?,
+        transform: fields.needed("transform")?,
+        glyph_transform: fields.optional("glyph_transform")?,
+        brush_transform: fields.optional("brush_transform")?,
     })
 }
 
-impl RunCommand {
-    pub fn read(heap: Global, line: &mut Line<'_>) -> Result<RunCommand, Reason> {
+impl Command for RunCommand {
+    const VERB: Verb = Verb::Run;
+
+    type Subject = Name;
+
+    ghost subject_of = { λ c. c.scene };
+
+    ghost begins_with = { BeginsWithName };
+
+    fn read(heap: Global, line: &mut Line<'_>) -> Result<RunCommand, Reason> {
         let scene = read_name(line)?;
         let fields = Fields::read(heap, line, &KEYS)?;
-        let attributes = read_attributes(&fields)?;
-        let glyphs = fields.needed_list(heap, "glyphs")?;
         Ok(RunCommand {
             scene,
-            attributes,
-            glyphs,
+            attributes: read_attributes(&fields)?,
+            glyphs: fields.needed("glyphs")?,
         })
+    }
+
+    fn subject(&self) -> Name {
+        self.scene
     }
 }

@@ -1,7 +1,9 @@
+ghost use Rattle.commands.specs.Subject.{BeginsWithName};
+
+use crate::command::{Command, read_name};
 use crate::fields::Fields;
-use crate::lines::read_name;
 use crate::reason::Reason;
-use crate::values::Value;
+use crate::verb::Verb;
 use job_text::{Line, Name};
 use records::Capacities;
 use std::alloc::Global;
@@ -26,34 +28,44 @@ const KEYS: [&str; 10] = [
     "glyph_runs",
 ];
 
-// The space in each list: 4096 where it is not said, and at most 1,000,000.
-fn read_spaces(fields: &Fields<'_>) -> Result<[usize; 10], Reason> {
-    let mut spaces = [4096; 10];
-    for (i, key) in KEYS.iter().enumerate() {
-        if let Some(n) = fields.optional::<u64>(*key)? {
-            spaces[i] = n.min(1_000_000) as usize;
-        }
-    }
-    Ok(spaces)
+const SPACE_IF_UNSAID: u64 = 4096;
+
+const MOST_SPACE: u64 = 1_000_000;
+
+// The space in one list.
+fn space(fields: &Fields<'_>, key: &'static str) -> Result<usize, Reason> {
+    let space: Option<u64> = fields.optional(key)?;
+    Ok(space.unwrap_or(SPACE_IF_UNSAID).min(MOST_SPACE) as usize)
 }
 
-impl SceneCommand {
-    pub fn read(heap: Global, line: &mut Line<'_>) -> Result<SceneCommand, Reason> {
+impl Command for SceneCommand {
+    const VERB: Verb = Verb::Scene;
+
+    type Subject = Name;
+
+    ghost subject_of = { λ c. c.name };
+
+    ghost begins_with = { BeginsWithName };
+
+    fn read(heap: Global, line: &mut Line<'_>) -> Result<SceneCommand, Reason> {
         let name = read_name(line)?;
         let fields = Fields::read(heap, line, &KEYS)?;
-        let spaces = read_spaces(&fields)?;
         let spaces = Capacities {
-            path_tags: spaces[0],
-            path_data: spaces[1],
-            draw_tags: spaces[2],
-            draw_data: spaces[3],
-            transforms: spaces[4],
-            styles: spaces[5],
-            patches: spaces[6],
-            color_stops: spaces[7],
-            glyphs: spaces[8],
-            glyph_runs: spaces[9],
+            path_tags: space(&fields, "path_tags")?,
+            path_data: space(&fields, "path_data")?,
+            draw_tags: space(&fields, "draw_tags")?,
+            draw_data: space(&fields, "draw_data")?,
+            transforms: space(&fields, "transforms")?,
+            styles: space(&fields, "styles")?,
+            patches: space(&fields, "patches")?,
+            color_stops: space(&fields, "color_stops")?,
+            glyphs: space(&fields, "glyphs")?,
+            glyph_runs: space(&fields, "glyph_runs")?,
         };
         Ok(SceneCommand { name, spaces })
+    }
+
+    fn subject(&self) -> Name {
+        self.name
     }
 }

@@ -1,7 +1,13 @@
+ghost use Rattle.std.specs.Prelude.{◌≡◌};
+ghost use Rattle.std.specs.Option.{ok_or};
+ghost use Rattle.commands.specs.Stream.{stream_name, stream_of};
+ghost use Rattle.commands.specs.declared.reason.Reason.TheVariants.{UnknownStream};
+
+use crate::reason::Reason;
 use std::fmt;
 
 // One of the six streams of a page.
-#[derive(Clone, Copy, Drop)]
+#[derive(Clone, Copy, Debug, PartialEq, Eq, Drop)]
 pub enum Stream {
     PathTags,
     PathData,
@@ -21,7 +27,9 @@ const STREAMS: [Stream; 6] = [
 ];
 
 impl Stream {
-    pub fn name(self) -> &'static str {
+    pub fn name(self) -> &'static str
+        ensures { result.now ≡ stream_name self }
+    {
         match self {
             Stream::PathTags => "path_tags",
             Stream::PathData => "path_data",
@@ -31,14 +39,19 @@ impl Stream {
             Stream::Styles => "styles",
         }
     }
+}
 
-    pub fn from_word(word: &[u8]) -> Option<Stream> {
-        for stream in STREAMS {
-            if stream.name().as_bytes() == word {
-                return Some(stream);
-            }
-        }
-        None
+impl<'a> TryFrom<&'a [u8]> for Stream {
+    type Error = Reason;
+
+    ghost try_from_gives = { λ word r. r ≡ ok_or (stream_of word.now) UnknownStream };
+
+    fn try_from(word: &'a [u8]) -> Result<Stream, Reason> {
+        STREAMS
+            .iter()
+            .copied()
+            .find(|stream| stream.name().as_bytes() == word)
+            .ok_or(Reason::UnknownStream)
     }
 }
 

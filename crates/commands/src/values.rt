@@ -1,30 +1,29 @@
-ghost use Rattle.std.specs.Prelude.{◌≡◌, ℕ, ◌^◌, List, Option};
+ghost use Rattle.std.specs.Prelude.{◌≡◌, ℕ, ◌^◌, List, Option, Some, None, MatchResult};
 ghost use Rattle.std.specs.Option.{option_map};
 ghost use Rattle.job_text.specs.Floats.{FloatOf};
-ghost use Rattle.job_text.specs.Numerals.{numeral, word_of};
+ghost use Rattle.job_text.specs.Numerals.{bytes_of, numeral, word_of};
+ghost use Rattle.job_text.specs.declared.flaw.Flaw.TheVariants.{Form};
 
-use job_text::{decimal, decimal_u32, float, hex_word};
+use job_text::{Flaw, decimal, decimal_u32, float, hex_bytes, hex_word};
+use std::alloc::Global;
 
 // What a text stands for: the value of a field, or an entry of a list.
-pub trait Value: Sized {
-    ghost reads: { List ℕ → Option Self → Type 0 };
+pub(crate) trait Value: Sized {
+    ghost reads: { List ℕ → Option Self → Type 0 } = { λ _ _. Unit {0} };
 
-    fn read(text: &[u8]) -> Option<Self>
-        ensures { reads text.now result };
+    fn read(heap: Global, text: &[u8]) -> Result<Self, Flaw>
+        ensures { MatchResult result (λ x. reads text.now (Some x)) (λ flaw. flaw ≡ Form → reads text.now None) };
 }
 
 // A decimal number of 32 bits.
-#[derive(Clone, Copy, Drop)]
-pub struct Number(pub u32);
+#[derive(Clone, Copy, Debug, Default, PartialEq, Eq, Drop)]
+pub(crate) struct Number(pub u32);
 
 impl Value for Number {
     ghost reads = { λ text r. option_map (λ n. n.0) r ≡ numeral 10 (2 ^ 32) text };
 
-    fn read(text: &[u8]) -> Option<Number> {
-        match decimal_u32(text) {
-            Some(n) => Some(Number(n)),
-            None => None,
-        }
+    fn read(_heap: Global, text: &[u8]) -> Result<Number, Flaw> {
+        decimal_u32(text).map(Number).ok_or(Flaw::Form)
     }
 }
 
@@ -32,8 +31,8 @@ impl Value for Number {
 impl Value for u64 {
     ghost reads = { λ text r. r ≡ numeral 10 (2 ^ 64) text };
 
-    fn read(text: &[u8]) -> Option<u64> {
-        decimal(text)
+    fn read(_heap: Global, text: &[u8]) -> Result<u64, Flaw> {
+        decimal(text).ok_or(Flaw::Form)
     }
 }
 
@@ -41,15 +40,24 @@ impl Value for u64 {
 impl Value for u32 {
     ghost reads = { λ text r. r ≡ word_of text };
 
-    fn read(text: &[u8]) -> Option<u32> {
-        hex_word(text)
+    fn read(_heap: Global, text: &[u8]) -> Result<u32, Flaw> {
+        hex_word(text).ok_or(Flaw::Form)
     }
 }
 
 impl Value for f32 {
     ghost reads = { FloatOf };
 
-    fn read(text: &[u8]) -> Option<f32> {
-        float(text)
+    fn read(_heap: Global, text: &[u8]) -> Result<f32, Flaw> {
+        float(text).ok_or(Flaw::Form)
+    }
+}
+
+// Bytes, two hexadecimal digits each.
+impl Value for Vec<u8> {
+    ghost reads = { λ text r. option_map (λ v. v.items) r ≡ bytes_of text };
+
+    fn read(heap: Global, text: &[u8]) -> Result<Vec<u8>, Flaw> {
+        hex_bytes(heap, text)
     }
 }

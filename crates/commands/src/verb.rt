@@ -1,9 +1,15 @@
+ghost use Rattle.std.specs.Prelude.{◌≡◌};
+ghost use Rattle.std.specs.Option.{ok_or};
+ghost use Rattle.commands.specs.Verb.{verb_name, verb_of, read_verb};
+ghost use Rattle.job_text.specs.Words.{first_word, after_word};
+ghost use Rattle.commands.specs.declared.reason.Reason.TheVariants.{UnknownCommand};
+
 use crate::reason::Reason;
 use job_text::Line;
 use std::fmt;
 
 // What a line asks for, by its first word.
-#[derive(Clone, Copy, Drop)]
+#[derive(Clone, Copy, Debug, PartialEq, Eq, Drop)]
 pub enum Verb {
     Scene,
     Lay,
@@ -47,7 +53,9 @@ const VERBS: [Verb; 18] = [
 ];
 
 impl Verb {
-    pub fn name(self) -> &'static str {
+    pub fn name(self) -> &'static str
+        ensures { result.now ≡ verb_name self }
+    {
         match self {
             Verb::Scene => "scene",
             Verb::Lay => "lay",
@@ -70,27 +78,29 @@ impl Verb {
         }
     }
 
-    fn from_word(word: &[u8]) -> Option<Verb> {
-        for verb in VERBS {
-            if verb.name().as_bytes() == word {
-                return Some(verb);
-            }
-        }
-        None
-    }
-
     // The verb of a line; none where the line is passed over.
-    pub fn read(line: &mut Line<'_>) -> Result<Option<Verb>, Reason> {
-        let Some(word) = line.word() else {
-            return Ok(None);
-        };
-        if word[0] == b'#' {
-            return Ok(None);
+    pub fn read(line: &mut Line<'_>) -> Result<Option<Verb>, Reason>
+        ensures value { result ≡ read_verb (first_word line.old.rest.now) }
+        ensures after { line.new.rest.now ≡ after_word line.old.rest.now }
+    {
+        match line.next() {
+            Some(word) if word[0] != b'#' => Verb::try_from(word).map(Some),
+            _ => Ok(None),
         }
-        match Verb::from_word(word) {
-            Some(verb) => Ok(Some(verb)),
-            None => Err(Reason::UnknownCommand),
-        }
+    }
+}
+
+impl<'a> TryFrom<&'a [u8]> for Verb {
+    type Error = Reason;
+
+    ghost try_from_gives = { λ word r. r ≡ ok_or (verb_of word.now) UnknownCommand };
+
+    fn try_from(word: &'a [u8]) -> Result<Verb, Reason> {
+        VERBS
+            .iter()
+            .copied()
+            .find(|verb| verb.name().as_bytes() == word)
+            .ok_or(Reason::UnknownCommand)
     }
 }
 

@@ -1,4 +1,3 @@
-pub mod Rule
 pub mod Shifts
 pub mod Eight
 pub mod Parts

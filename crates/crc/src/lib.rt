@@ -1,7 +1,6 @@
 // CRC-32, the checksum of zlib and PNG.
 #![tactic(auto)]
 
-mod slices;
 mod sums;
 mod table;
 

@@ -2,7 +2,6 @@ ghost use Rattle.std.specs.Prelude.{◌≡◌, ℕ, List, [], bit_xor};
 ghost use Rattle.crc.specs.Crc.{fed_byte, fed, word_bytes, crc_of};
 ghost use Rattle.crc.specs.Sums.{Seen, Adds, Published};
 
-use crate::slices::Slices;
 use crate::table::entry;
 
 // The checksum of the bytes that it was fed.
@@ -12,44 +11,19 @@ pub struct Crc32 {
 }
 
 // The state after one byte more.
-pub(crate) fn next(state: u32, byte: u8) -> u32
+fn next(state: u32, byte: u8) -> u32
     ensures { result ≡ fed_byte state byte }
 {
-    (state / 256) ^ entry(((state ^ byte as u32) % 256) as u8)
+    (state / 256) ^ entry(0, ((state ^ byte as u32) % 256) as u8)
 }
 
-fn feed_short(state: u32, bytes: &[u8]) -> u32
-    ensures { result ≡ fed state bytes.now }
+// The state after eight bytes more.
+fn next_eight(state: u32, b: &[u8; 8]) -> u32
+    ensures { result ≡ fed state b.now }
 {
-    let mut c = state;
-    for b in bytes {
-        c = next(c, *b);
-    }
-    c
-}
-
-// The same, eight bytes at a time.
-fn feed_long(state: u32, bytes: &[u8]) -> u32
-    ensures { result ≡ fed state bytes.now }
-{
-    let slices = Slices::new();
-    let mut c = state;
-    let mut rest = bytes;
-    while let Some((eight, more)) = rest.split_first_chunk::<8>() {
-        c = slices.next_eight(c, eight);
-        rest = more;
-    }
-    feed_short(c, rest)
-}
-
-fn feed(state: u32, bytes: &[u8]) -> u32
-    ensures { result ≡ fed state bytes.now }
-{
-    // From here on a table for eight bytes is worth its making.
-    if bytes.len() >= 4096 {
-        return feed_long(state, bytes);
-    }
-    feed_short(state, bytes)
+    let x = (state ^ u32::from_le_bytes([b[0], b[1], b[2], b[3]])).to_le_bytes();
+    let first = entry(7, x[0]) ^ entry(6, x[1]) ^ entry(5, x[2]) ^ entry(4, x[3]);
+    first ^ entry(3, b[4]) ^ entry(2, b[5]) ^ entry(1, b[6]) ^ entry(0, b[7])
 }
 
 impl Crc32 {
@@ -63,7 +37,9 @@ impl Crc32 {
         ensures state { self.new.state ≡ fed self.old.state bytes.now }
         ensures seen { Adds self.old bytes.now self.new }
     {
-        self.state = feed(self.state, bytes);
+        let (eights, rest) = bytes.as_chunks::<8>();
+        let state = eights.iter().fold(self.state, next_eight);
+        self.state = rest.iter().fold(state, |state, byte| next(state, *byte));
     }
 
     // The word's four bytes, little-endian.
@@ -71,7 +47,7 @@ impl Crc32 {
         ensures state { self.new.state ≡ fed self.old.state (word_bytes word) }
         ensures seen { Adds self.old (word_bytes word) self.new }
     {
-        self.state = feed(self.state, &word.to_le_bytes());
+        self.update(&word.to_le_bytes());
     }
 
     pub fn finish(&self) -> u32

@@ -2,7 +2,7 @@
 #![tactic(auto)]
 
 use anyhow::anyhow;
-use job::Runner;
+use job::{Lines, Runner};
 use std::io::Read;
 use std::process::ExitCode;
 use std::{env, fs};
@@ -26,19 +26,13 @@ fn job_text(rt: &HostRuntime) -> anyhow::Result<Vec<u8>> {
 
 // Prints the answers as they come; a fault goes to standard error and ends the job.
 fn run(rt: &HostRuntime, text: &[u8]) -> anyhow::Result<ExitCode> {
-    let mut runner = Runner::new(rt.alloc(), text);
+    let mut runner = Runner::new(rt.alloc());
     let mut out = String::new(rt.alloc());
-    for _ in 0..text.len() {
-        let more = match runner.step(&mut out) {
-            Ok(more) => more,
-            Err(fault) => {
-                rt.print(out.as_str())?;
-                rt.eprintln(fault)?;
-                return Ok(ExitCode::FAILURE);
-            }
-        };
-        if !more {
-            break;
+    for line in Lines::new(text) {
+        if let Err(fault) = runner.run_line(line, &mut out) {
+            rt.print(out.as_str())?;
+            rt.eprintln(fault)?;
+            return Ok(ExitCode::FAILURE);
         }
         if out.len() > PIECE {
             rt.print(out.as_str())?;

@@ -1,5 +1,5 @@
 -- Colours, their words, and stops bit by bit.
-use Rattle.std.specs.Prelude.{ℕ, ◌+◌, ◌*◌, cond, from_bits, to_bits, Float}
+use Rattle.std.specs.Prelude.{◌≡◌, ℕ, ◌+◌, ◌*◌, cond, from_bits, to_bits, Float}
 use Rattle.std.specs.Float.Ieee.{eq, mul, to_unsigned}
 use Rattle.std.specs.Float.{float_round, binary32}
 use Rattle.draw.specs.declared.color.Color.{Color}
@@ -40,3 +40,8 @@ stop_of s = record {
     a = from_bits binary32 s.a;
   };
 }
+
+-- a stop's bits, from which it comes back
+pub record IsBitsOf (s : ColorStop) (b : StopBits) : Type 0 where
+  pub is : b ≡ bits_of s
+  pub back : stop_of b ≡ s

@@ -75,15 +75,16 @@ pub fn color_at(stops: &[ColorStop], u: f32) -> Color
     }
     let mut earlier = first.offset;
     let mut color = first.color;
-    for i in 1..stops.len() {
-        let next = stops[i];
+    let mut following = following;
+    while let [next, rest @ ..] = following {
         let later = effective_offset(earlier, next.offset);
         if u > later {
             earlier = later;
             color = next.color;
+            following = rest;
         } else {
             let mix = color_between(u, earlier, color, later, next.color);
-            return last_shared(u, later, &stops[i + 1..], mix);
+            return last_shared(u, later, rest, mix);
         }
     }
     color
@@ -102,6 +103,7 @@ pub fn write_row(row: &mut [u32], stops: &[ColorStop])
     ensures whole { length row.old ≡ 512 → row.new ≡ samples stops.now }
 {
     let count = row.len().min(N_SAMPLES);
+    // By index, since nothing is known of what is written through `iter_mut().enumerate()`.
     for i in 0..count {
         row[i] = sample(stops, i as u16);
     }

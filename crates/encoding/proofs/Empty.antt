@@ -1,15 +1,9 @@
 -- A scene with nothing in it.
-use Rattle.std.proofs.Common.{◌≡◌, ℕ, min, List, [], arith}
-use Rattle.math.specs.declared.transform.Transform.{Transform}
-use Rattle.draw.specs.declared.color.StopBits.{StopBits}
+use Rattle.std.proofs.Common.{◌≡◌, ℕ, List, [], arith}
 use Rattle.records.specs.declared.patch.Patch.{Patch}
-use Rattle.records.specs.declared.glyph.Glyph.{Glyph}
 use Rattle.records.specs.declared.glyph.GlyphRun.{GlyphRun}
 use Rattle.records.specs.declared.glyph.StreamOffsets.{StreamOffsets}
-use Rattle.records.specs.declared.scene.Capacities.{Capacities}
-use Rattle.records.specs.declared.style.Style.{Style}
 use Rattle.encoding.specs.Shape.{Lies, Turns, Rises, start}
-use Rattle.encoding.specs.Scene.{Scene, Room, empty, limited}
 
 lies_none : (w s : ℕ) → Lies w s 0 []
 unfolding Lies
@@ -38,15 +32,3 @@ rises_none e n = record {
 
 pub recorded_none : (e : StreamOffsets) (n : ℕ) {rs : List GlyphRun} → rs ≡ [] → ∥ Rises e n start rs ∥₁
 recorded_none e n q = rw q (∣ rises_none e n ∣₁)
-
-pub scene_none : {a b c d : List ℕ} {e : List Transform} {f : List Style} {g : List Patch} {h : List StopBits} {i : List Glyph} {j : List GlyphRun}
-    → a ≡ [] → b ≡ [] → c ≡ [] → d ≡ [] → e ≡ [] → f ≡ [] → g ≡ [] → h ≡ [] → i ≡ [] → j ≡ []
-    → ◌≡◌ {A = Scene} (record { path_tags = a; path_data = b; draw_tags = c; draw_data = d; transforms = e; styles = f; patches = g; stops = h; glyphs = i; runs = j; paths = 0; segments = 0; clips = 0; open_clips = 0; flags = 0 }) empty
-scene_none a b c d e f g h i j = cc
-
-pub room_made : (w : Capacities) {a b c d e f g h i j : ℕ}
-    → a ≡ min w.path_tags 1000000 → b ≡ min w.path_data 1000000 → c ≡ min w.draw_tags 1000000 → d ≡ min w.draw_data 1000000
-    → e ≡ min w.transforms 1000000 → f ≡ min w.styles 1000000 → g ≡ min w.patches 1000000 → h ≡ min w.color_stops 1000000
-    → i ≡ min w.glyphs 1000000 → j ≡ min w.glyph_runs 1000000
-    → ◌≡◌ {A = Room} (record { path_tags = a; path_data = b; draw_tags = c; draw_data = d; transforms = e; styles = f; patches = g; stops = h; glyphs = i; runs = j }) (limited w)
-room_made w a b c d e f g h i j = cc

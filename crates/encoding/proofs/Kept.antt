@@ -9,6 +9,8 @@ use Rattle.records.specs.declared.patch.Patch.TheVariants.{Ramp, GlyphRun as Run
 use Rattle.records.specs.declared.glyph.GlyphRun.{GlyphRun}
 use Rattle.records.specs.declared.glyph.StreamOffsets.{StreamOffsets}
 use Rattle.encoding.specs.Shape.{Lies, Turns, Rises, Under, start}
+use Rattle.records.specs.Counts.{added}
+use Rattle.records.specs.declared.scene.Counts.{Counts}
 use Rattle.encoding.specs.Scene.{Scene, Sound, ends}
 use Rattle.encoding.proofs.Patches.{lies_append, lies_wider, lies_more, patches_small}
 use Rattle.encoding.proofs.Turning.{turns_append, turns_more}
@@ -112,3 +114,8 @@ module _ (s o : Scene) (hs : Sound s) (ho : Sound o) where
       let e' = e ∙ add_comm (length s.transforms) (length o.transforms) in
       let f' = f ∙ add_comm (length s.styles) (length o.styles) in
       rw (q, bs, g, n, a', b', c', d', e', f') (∥∥₁_map₂ hs.recorded ho.recorded (rises_append t (ends s) (ends o) _ _ start _ _))
+
+pub few_added : (a b c : Counts) → c ≡ added a b
+    → (a.n_paths + b.n_paths ≤ 1000000) × (a.n_path_segments + b.n_path_segments ≤ 1000000) × (a.n_clips + b.n_clips ≤ 1000000) × (a.n_open_clips + b.n_open_clips ≤ 1000000)
+    → (c.n_paths ≤ 1000000) × (c.n_path_segments ≤ 1000000) × (c.n_clips ≤ 1000000) × (c.n_open_clips ≤ 1000000)
+few_added a b c e h = rw e h

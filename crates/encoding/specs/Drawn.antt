@@ -5,7 +5,7 @@ use Rattle.math.specs.Product.{at}
 use Rattle.draw.specs.Color.{color_word, faded}
 use Rattle.draw.specs.declared.color.ColorStop.{ColorStop}
 use Rattle.draw.specs.declared.color.StopBits.{StopBits}
-use Rattle.records.specs.Every.{all}
+use Rattle.std.specs.List.{list_all}
 use Rattle.records.specs.Finite.{stop_finite, points_finite, glyph_finite, attributes_finite}
 use Rattle.records.specs.Moved.{stored_stop}
 use Rattle.records.specs.Numbers.{extend_of}
@@ -100,10 +100,10 @@ gradient_spacious s r (x ∷ []) = color_spacious s r
 gradient_spacious s r (x ∷ y ∷ ss) = ramp_spacious s r (length (x ∷ y ∷ ss))
 
 abbrev pub gradient_finite : DrawLinearGradient → List ColorStop → Float → Bool
-gradient_finite d ss alpha = points_finite d && float_is_finite alpha && all stop_finite ss
+gradient_finite d ss alpha = points_finite d && float_is_finite alpha && list_all stop_finite ss
 
 abbrev pub gradient_in_range : List ColorStop → Float → ℕ → Bool
-gradient_in_range ss alpha n = nat_le (length ss) 16 && in_unit alpha && nat_le n 2 && all stop_in_unit ss
+gradient_in_range ss alpha n = nat_le (length ss) 16 && in_unit alpha && list_all stop_in_unit ss && nat_le n 2
 
 abbrev pub gradient_refusal : Scene → Room → DrawLinearGradient → List ColorStop → Float → ℕ → Option Refusal
 gradient_refusal s r d ss alpha n =
@@ -139,4 +139,4 @@ abbrev pub run_spacious : Scene → Room → ℕ → Bool
 run_spacious s r n = takes s.patches 1 r.patches && takes s.glyphs n r.glyphs && takes s.runs 1 r.runs
 
 abbrev pub run_refusal : Scene → Room → RunAttributes → List Glyph → Option Refusal
-run_refusal s r a gs = asked (attributes_finite a && all glyph_finite gs) true (run_spacious s r (length gs)) true
+run_refusal s r a gs = asked (attributes_finite a && list_all glyph_finite gs) true (run_spacious s r (length gs)) true

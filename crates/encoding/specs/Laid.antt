@@ -1,7 +1,7 @@
 -- The scene after lay, and what lay asks.
 use Rattle.std.specs.Prelude.{ℕ, ◌+◌, ◌≤◌, Bool, true, ◌&&◌, ◌++◌, length, Option, nat_le}
 use Rattle.math.specs.Finite.{all_finite}
-use Rattle.records.specs.Every.{all}
+use Rattle.std.specs.List.{list_all}
 use Rattle.records.specs.declared.refusal.Refusal.{Refusal}
 use Rattle.records.specs.declared.scene.Counts.{Counts}
 use Rattle.records.specs.declared.scene.Streams.{Streams}
@@ -39,7 +39,7 @@ lay_spacious s r g =
     && nat_le (length s.styles + length g.styles.now) r.styles
 
 abbrev pub lay_refusal : Scene → Room → Streams → Counts → Option Refusal
-lay_refusal s r g c = asked (all all_finite g.transforms.now) true (lay_spacious s r g) (counts_few s c)
+lay_refusal s r g c = asked (list_all all_finite g.transforms.now) true (lay_spacious s r g) (counts_few s c)
 
 -- what a yes of question 3 says of lay
 pub record Lays (s : Scene) (r : Room) (g : Streams) : Type 0 where

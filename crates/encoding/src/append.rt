@@ -109,10 +109,7 @@ impl Encoding {
             &other.resources.glyph_runs,
             &run_shift,
         );
-        self.counts.n_paths += other.counts.n_paths;
-        self.counts.n_path_segments += other.counts.n_path_segments;
-        self.counts.n_clips += other.counts.n_clips;
-        self.counts.n_open_clips += other.counts.n_open_clips;
+        self.counts += other.counts;
         self.flags = other.flags;
         Ok(())
     }

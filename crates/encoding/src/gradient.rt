@@ -1,7 +1,9 @@
-ghost use Rattle.std.specs.Prelude.{◌≡◌, ◌≤◌, true, length};
+ghost use Rattle.std.specs.Prelude.{◌≡◌, ◌≤◌, true, ◌&&◌, length, nat_le};
+ghost use Rattle.std.specs.List.{list_all};
+ghost use Rattle.records.specs.Unit.{in_unit, stop_in_unit};
 ghost use Rattle.encoding.specs.Scene.{meaning, room};
 ghost use Rattle.encoding.specs.Answer.{Answers, asked};
-ghost use Rattle.encoding.specs.Drawn.{colored, color_spacious, ramped, ramp_spacious, graded, gradient_finite, gradient_in_range, gradient_refusal};
+ghost use Rattle.encoding.specs.Drawn.{colored, color_spacious, ramped, ramp_spacious, graded, gradient_finite, gradient_refusal};
 
 use crate::encoding::Encoding;
 use bounded::extend_mapped;
@@ -15,15 +17,11 @@ fn is_finite(gradient: &DrawLinearGradient, color_stops: &[ColorStop], alpha: f3
     gradient.is_finite() && alpha.is_finite() && every::<ColorStop, records::IsFinite>(color_stops)
 }
 
-fn is_in_range(color_stops: &[ColorStop], alpha: f32, extend: u32) -> bool
+fn is_in_range(color_stops: &[ColorStop], alpha: f32) -> bool
     ensures few { result ≡ true → length color_stops.now ≤ 16 }
-    ensures extend { result ≡ true → extend ≤ 2 }
-    ensures value { result ≡ gradient_in_range color_stops.now alpha extend }
+    ensures value { result ≡ (nat_le (length color_stops.now) 16 && in_unit alpha && list_all stop_in_unit color_stops.now) }
 {
-    color_stops.len() <= 16
-        && is_in_unit(alpha)
-        && extend <= 2
-        && every::<ColorStop, records::InUnit>(color_stops)
+    color_stops.len() <= 16 && is_in_unit(alpha) && every::<ColorStop, records::InUnit>(color_stops)
 }
 
 impl Encoding {
@@ -86,6 +84,7 @@ impl Encoding {
     }
 
     // Encodes a linear gradient brush: a color where there are fewer than two stops.
+    // `extend` is a number and no `Extend`, since the call takes any and refuses what stands for none.
     pub fn encode_linear_gradient(
         &mut self,
         gradient: DrawLinearGradient,
@@ -98,10 +97,10 @@ impl Encoding {
         if !is_finite(&gradient, color_stops, alpha) {
             return Err(Refusal::NotFinite);
         }
-        if !is_in_range(color_stops, alpha, extend) {
+        if !is_in_range(color_stops, alpha) {
             return Err(Refusal::OutOfRange);
         }
-        let extend = Extend::from_number(extend);
+        let extend = Extend::try_from(extend)?;
         match color_stops {
             [] => self.encode_color(0),
             [stop] => self.encode_color(stop.multiply_alpha(alpha).color.to_word()),

@@ -39,10 +39,7 @@ impl Encoding {
         self.draw_data.extend_from_slice(streams.draw_data);
         self.transforms.extend_from_slice(streams.transforms);
         self.styles.extend_from_slice(streams.styles);
-        self.counts.n_paths += counts.n_paths;
-        self.counts.n_path_segments += counts.n_path_segments;
-        self.counts.n_clips += counts.n_clips;
-        self.counts.n_open_clips += counts.n_open_clips;
+        self.counts += counts;
         self.flags = flags;
         Ok(())
     }

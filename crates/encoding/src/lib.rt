@@ -8,7 +8,6 @@ mod gradient;
 mod image;
 mod lay;
 mod make;
-mod new_streams;
 mod reads;
 
 pub use bounded::BoundedVec;

@@ -1,3 +1,10 @@
+ghost use Rattle.std.specs.Prelude.{◌≡◌, drop};
+ghost use Rattle.std.specs.Iterator.{YieldsFirstRef, item_count};
+ghost use Rattle.job.specs.Lines.{lines, left};
+ghost use Rattle.job_text.specs.Words.{without_return};
+
+use job_text::up_to;
+
 // The lines of a text that are still to come. A line ends at a line feed, which the last may lack, and a
 // carriage return before it is dropped.
 #[derive(Drop)]
@@ -5,35 +12,43 @@ pub struct Lines<'a> {
     rest: &'a [u8],
 }
 
-// How much stands before the first line feed.
-fn line_len(text: &[u8]) -> usize {
-    for (i, b) in text.iter().enumerate() {
-        if *b == b'\n' {
-            return i;
-        }
+fn past_first(text: &[u8]) -> &[u8]
+    ensures { result.now ≡ drop 1 text.now }
+{
+    text.split_first().map_or(text, |(_, rest)| rest)
+}
+
+fn without_return(line: &[u8]) -> &[u8]
+    ensures { result.now ≡ without_return line.now }
+{
+    match line {
+        [front @ .., b'\r'] => front,
+        _ => line,
     }
-    text.len()
 }
 
 impl<'a> Lines<'a> {
-    pub fn new(text: &'a [u8]) -> Lines<'a> {
+    pub fn new(text: &'a [u8]) -> Lines<'a>
+        ensures { left result ≡ lines text.now }
+    {
         Lines { rest: text }
     }
+}
 
-    pub fn line(&mut self) -> Option<&'a [u8]> {
+impl<'a> Iterator for Lines<'a> {
+    type Item = &'a [u8];
+
+    ghost next_gives = { YieldsFirstRef left };
+
+    ghost remaining = { item_count left };
+
+    fn next(&mut self) -> Option<&'a [u8]> {
         let text = self.rest;
         if text.is_empty() {
             return None;
         }
-        let len = line_len(text).min(text.len());
-        let (line, end) = text.split_at(len);
-        self.rest = match end {
-            [_, rest @ ..] => rest,
-            [] => end,
-        };
-        match line {
-            [front @ .., b'\r'] => Some(front),
-            _ => Some(line),
-        }
+        let (line, end) = text.split_at(up_to(b'\n', text));
+        self.rest = past_first(end);
+        Some(without_return(line))
     }
 }

@@ -1,4 +1,5 @@
-use crate::summary::{Summary, sum_of};
+use crate::separated::write_separated;
+use crate::summary::Summary;
 use encoding::Encoding;
 use math::Transform;
 use records::{GlyphRun, Patch};
@@ -11,96 +12,86 @@ pub struct Shown<'a> {
     pub scene: &'a Encoding,
 }
 
-fn show_patch<W: fmt::Write>(patch: &Patch, f: &mut fmt::Formatter<W>) -> fmt::Result {
-    match *patch {
-        Patch::Ramp {
-            draw_data_offset,
-            stops_start,
-            stops_end,
-            extend,
-        } => {
-            let extend = extend.number();
-            write!(f, "g/{draw_data_offset}/{stops_start}/{stops_end}/{extend}")
+#[derive(Clone, Copy, Drop)]
+struct ShownPatch<'a>(&'a Patch);
+
+// The checksum of a transform, if there is one.
+#[derive(Clone, Copy, Drop)]
+struct ShownTransform(Option<Transform>);
+
+#[derive(Clone, Copy, Drop)]
+struct ShownRun<'a>(&'a GlyphRun);
+
+impl fmt::Display for ShownPatch<'_> {
+    fn fmt<W: fmt::Write>(&self, f: &mut fmt::Formatter<W>) -> fmt::Result {
+        match *self.0 {
+            Patch::Ramp {
+                draw_data_offset,
+                stops_start,
+                stops_end,
+                extend,
+            } => {
+                let extend = u32::from(extend);
+                write!(f, "g/{draw_data_offset}/{stops_start}/{stops_end}/{extend}")
+            }
+            Patch::GlyphRun { index } => write!(f, "r/{index}"),
+            Patch::Image {
+                draw_data_offset,
+                id,
+                width,
+                height,
+            } => { write!(f, "p/{draw_data_offset}/{id}/{width}/{height}") }
         }
-        Patch::GlyphRun { index } => write!(f, "r/{index}"),
-        Patch::Image {
-            draw_data_offset,
-            id,
-            width,
-            height,
-        } => { write!(f, "p/{draw_data_offset}/{id}/{width}/{height}") }
     }
 }
 
-fn show_patches<W: fmt::Write>(patches: &[Patch], f: &mut fmt::Formatter<W>) -> fmt::Result {
-    for (i, patch) in patches.iter().enumerate() {
-        if i > 0 {
-            f.write_str(",")?;
+impl fmt::Display for ShownTransform {
+    fn fmt<W: fmt::Write>(&self, f: &mut fmt::Formatter<W>) -> fmt::Result {
+        match self.0 {
+            Some(transform) => write!(f, "{:08x}", Summary::of(&[transform]).crc),
+            None => f.write_str("-"),
         }
-        show_patch(patch, f)?;
-    }
-    Ok(())
-}
-
-fn show_transform<W: fmt::Write>(
-    transform: Option<Transform>,
-    f: &mut fmt::Formatter<W>,
-) -> fmt::Result {
-    match transform {
-        Some(t) => {
-            let crc = sum_of(&[t]).crc;
-            write!(f, "/{crc:08x}")
-        }
-        None => f.write_str("/-"),
     }
 }
 
-fn show_run<W: fmt::Write>(run: &GlyphRun, f: &mut fmt::Formatter<W>) -> fmt::Result {
-    let attributes = run.attributes;
-    let font = attributes.font;
-    let style = attributes.style;
-    let size = f32_to_bits_with_nan(attributes.font_size);
-    let start = run.glyphs_start;
-    let end = run.glyphs_end;
-    write!(f, "{font}/{style}/{size:08x}/{start}/{end}")?;
-    show_transform(Some(attributes.transform), f)?;
-    show_transform(attributes.glyph_transform, f)?;
-    show_transform(attributes.brush_transform, f)?;
-    let o = run.stream_offsets;
-    for offset in [
-        o.path_tags,
-        o.path_data,
-        o.draw_tags,
-        o.draw_data,
-        o.transforms,
-        o.styles,
-    ] {
-        write!(f, "/{offset}")?;
+impl fmt::Display for ShownRun<'_> {
+    fn fmt<W: fmt::Write>(&self, f: &mut fmt::Formatter<W>) -> fmt::Result {
+        let attributes = self.0.attributes;
+        let size = f32_to_bits_with_nan(attributes.font_size);
+        write!(f, "{}/{}/{size:08x}", attributes.font, attributes.style)?;
+        write!(f, "/{}/{}", self.0.glyphs_start, self.0.glyphs_end)?;
+        let transforms = [
+            ShownTransform(Some(attributes.transform)),
+            ShownTransform(attributes.glyph_transform),
+            ShownTransform(attributes.brush_transform),
+        ];
+        let offsets = self.0.stream_offsets;
+        let offsets = [
+            offsets.path_tags,
+            offsets.path_data,
+            offsets.draw_tags,
+            offsets.draw_data,
+            offsets.transforms,
+            offsets.styles,
+        ];
+        f.write_str("/")?;
+        write_separated(transforms.iter(), "/", f)?;
+        f.write_str("/")?;
+        write_separated(offsets.iter(), "/", f)
     }
-    Ok(())
-}
-
-fn show_runs<W: fmt::Write>(runs: &[GlyphRun], f: &mut fmt::Formatter<W>) -> fmt::Result {
-    for (i, run) in runs.iter().enumerate() {
-        if i > 0 {
-            f.write_str(",")?;
-        }
-        show_run(run, f)?;
-    }
-    Ok(())
 }
 
 fn show_streams<W: fmt::Write>(scene: &Encoding, f: &mut fmt::Formatter<W>) -> fmt::Result {
     let path_tags = Summary::of_bytes(scene.path_tags());
-    let path_data = sum_of(scene.path_data());
-    let draw_tags = sum_of(scene.draw_tags());
+    let path_data = Summary::of(scene.path_data());
+    let draw_tags = Summary::of(scene.draw_tags());
+    let draw_data = Summary::of(scene.draw_data());
+    let transforms = Summary::of(scene.transforms());
+    let styles = Summary::of(scene.styles());
     write!(
         f,
         "path_tags={path_tags} path_data={path_data} draw_tags={draw_tags}"
     )?;
-    let draw_data = sum_of(scene.draw_data());
-    let transforms = sum_of(scene.transforms());
-    let styles = sum_of(scene.styles());
     write!(
         f,
         " draw_data={draw_data} transforms={transforms} styles={styles}"
@@ -109,11 +100,11 @@ fn show_streams<W: fmt::Write>(scene: &Encoding, f: &mut fmt::Formatter<W>) -> f
 
 fn show_resources<W: fmt::Write>(scene: &Encoding, f: &mut fmt::Formatter<W>) -> fmt::Result {
     f.write_str(" patches=")?;
-    show_patches(scene.patches(), f)?;
-    let color_stops = sum_of(scene.color_stops());
-    let glyphs = sum_of(scene.glyphs());
+    write_separated(scene.patches().iter().map(ShownPatch), ",", f)?;
+    let color_stops = Summary::of(scene.color_stops());
+    let glyphs = Summary::of(scene.glyphs());
     write!(f, " color_stops={color_stops} glyphs={glyphs} runs=")?;
-    show_runs(scene.glyph_runs(), f)
+    write_separated(scene.glyph_runs().iter().map(ShownRun), ",", f)
 }
 
 impl fmt::Display for Shown<'_> {
@@ -121,15 +112,11 @@ impl fmt::Display for Shown<'_> {
         show_streams(self.scene, f)?;
         show_resources(self.scene, f)?;
         let counts = self.scene.counts();
-        let paths = counts.n_paths;
-        let segments = counts.n_path_segments;
-        write!(f, " paths={paths} segments={segments}")?;
-        let clips = counts.n_clips;
-        let open_clips = counts.n_open_clips;
-        let flags = self.scene.flags();
         write!(
             f,
-            " clips={clips} open_clips={open_clips} flags={flags:08x}"
-        )
+            " paths={} segments={} clips={} open_clips={}",
+            counts.n_paths, counts.n_path_segments, counts.n_clips, counts.n_open_clips
+        )?;
+        write!(f, " flags={:08x}", self.scene.flags())
     }
 }

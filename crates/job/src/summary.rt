@@ -23,37 +23,40 @@ impl Summed for u32 {
     }
 }
 
+impl Summed for f32 {
+    fn feed(&self, crc: &mut Crc32) {
+        crc.update_word(f32_to_bits_with_nan(*self));
+    }
+}
+
 impl Summed for Transform {
     fn feed(&self, crc: &mut Crc32) {
-        for x in self.matrix {
-            crc.update_word(f32_to_bits_with_nan(x));
-        }
-        for x in self.translation {
-            crc.update_word(f32_to_bits_with_nan(x));
+        for x in self.matrix.iter().chain(self.translation.iter()) {
+            x.feed(crc);
         }
     }
 }
 
 impl Summed for Style {
     fn feed(&self, crc: &mut Crc32) {
-        crc.update_word(self.flags_and_miter_limit);
-        crc.update_word(self.line_width);
+        self.flags_and_miter_limit.feed(crc);
+        self.line_width.feed(crc);
     }
 }
 
 impl Summed for StopBits {
     fn feed(&self, crc: &mut Crc32) {
         for word in [self.offset, self.r, self.g, self.b, self.a] {
-            crc.update_word(word);
+            word.feed(crc);
         }
     }
 }
 
 impl Summed for Glyph {
     fn feed(&self, crc: &mut Crc32) {
-        crc.update_word(self.id);
-        crc.update_word(f32_to_bits_with_nan(self.x));
-        crc.update_word(f32_to_bits_with_nan(self.y));
+        self.id.feed(crc);
+        self.x.feed(crc);
+        self.y.feed(crc);
     }
 }
 
@@ -64,23 +67,21 @@ impl Summary {
             crc: checksum(bytes),
         }
     }
-}
 
-pub(crate) fn sum_of<T: Summed>(entries: &[T]) -> Summary {
-    let mut crc = Crc32::new();
-    for x in entries {
-        x.feed(&mut crc);
-    }
-    Summary {
-        len: entries.len(),
-        crc: crc.finish(),
+    pub(crate) fn of<T: Summed>(entries: &[T]) -> Summary {
+        let mut crc = Crc32::new();
+        for entry in entries {
+            entry.feed(&mut crc);
+        }
+        Summary {
+            len: entries.len(),
+            crc: crc.finish(),
+        }
     }
 }
 
 impl fmt::Display for Summary {
     fn fmt<W: fmt::Write>(&self, f: &mut fmt::Formatter<W>) -> fmt::Result {
-        let len = self.len;
-        let crc = self.crc;
-        write!(f, "{len}:{crc:08x}")
+        write!(f, "{}:{:08x}", self.len, self.crc)
     }
 }

@@ -1,3 +1,3 @@
-pub mod Fronts
 pub mod Digits
 pub mod Cuts
+pub mod Pairs

@@ -6,12 +6,7 @@ pub(crate) fn run_of(byte: u8, text: &[u8]) -> usize
     ensures value { result ≡ run_of byte text.now }
     ensures bound { result ≤ length text.now }
 {
-    for (i, b) in text.iter().enumerate() {
-        if *b != byte {
-            return i;
-        }
-    }
-    text.len()
+    text.iter().take_while(|b| **b == byte).count()
 }
 
 // How much stands before the first `byte`.
@@ -19,10 +14,5 @@ pub fn up_to(byte: u8, text: &[u8]) -> usize
     ensures value { result ≡ up_to byte text.now }
     ensures bound { result ≤ length text.now }
 {
-    for (i, b) in text.iter().enumerate() {
-        if *b == byte {
-            return i;
-        }
-    }
-    text.len()
+    text.iter().take_while(|b| **b != byte).count()
 }

@@ -1,10 +1,12 @@
-ghost use Rattle.std.specs.Prelude.{◌≡◌};
-ghost use Rattle.job_text.specs.declared.flaw.Flaw.TheVariants.{Memory};
+ghost use Rattle.std.specs.Prelude.{◌≡◌, ◌≢◌};
+ghost use Rattle.job_text.specs.declared.flaw.Flaw.TheVariants.{Form, Memory};
+ghost use Rattle.hex.specs.declared.error.FromHexError.TheVariants.{OutOfMemory};
 
+use hex::FromHexError;
 use std::alloc::{AllocError, AllocFailed};
 
 // Why a value was not read.
-#[derive(Clone, Copy, Drop)]
+#[derive(Clone, Copy, Debug, PartialEq, Eq, Drop)]
 pub enum Flaw {
     Form,
     Memory,
@@ -23,5 +25,16 @@ impl<T: Drop> From<AllocFailed<T>> for Flaw {
 
     fn from(_e: AllocFailed<T>) -> Flaw {
         Flaw::Memory
+    }
+}
+
+impl From<FromHexError> for Flaw {
+    ghost from_gives = { λ e r. (e ≡ OutOfMemory → r ≡ Memory) × (e ≢ OutOfMemory → r ≡ Form) };
+
+    fn from(e: FromHexError) -> Flaw {
+        match e {
+            FromHexError::OutOfMemory => Flaw::Memory,
+            _ => Flaw::Form,
+        }
     }
 }

@@ -9,23 +9,19 @@ use std::str;
 fn from_bits(text: &[u8]) -> Option<f32>
     ensures { result ≡ float_from_bits text.now }
 {
-    if text.len() != 9 {
-        return None;
-    }
-    let (_, digits) = text.split_at(1);
-    match hex_word(digits) {
-        Some(bits) => Some(f32_from_bits_with_nan(bits)),
-        None => None,
+    match text {
+        // A closure: the function's name in its place gets no proof.
+        [_, digits @ ..] if digits.len() == 8 => hex_word(digits).map(|bits| f32_from_bits_with_nan(
+            bits,
+        )),
+        _ => None,
     }
 }
 
 fn from_decimal(text: &[u8]) -> Option<f32>
     ensures { FromDecimal text.now result }
 {
-    match str::from_utf8(text) {
-        Ok(s) => s.parse::<f32>().ok(),
-        Err(_) => None,
-    }
+    str::from_utf8(text).ok()?.parse().ok()
 }
 
 // A number as Rust reads it, or `x` and its bits as eight hexadecimal digits.

@@ -1,10 +1,10 @@
-ghost use Rattle.std.specs.Prelude.{◌≡◌, ◌<◌, length, MatchOption, OnSome};
-ghost use Rattle.job_text.specs.Words.{first_word, after_word};
+ghost use Rattle.std.specs.Prelude.{◌≡◌, length};
+ghost use Rattle.std.specs.Iterator.{at_most};
 
 use crate::finds::{run_of, up_to};
 
-// What is left to read of a line.
-#[derive(Clone, Copy, Drop)]
+// What is left to read of a line, whose words are apart by spaces.
+#[derive(Drop)]
 pub struct Line<'a> {
     rest: &'a [u8],
 }
@@ -15,13 +15,18 @@ impl<'a> Line<'a> {
     {
         Line { rest: bytes }
     }
+}
 
-    // The next word, if there is one.
-    pub fn word(&mut self) -> Option<&'a [u8]>
-        ensures after { self.new.rest.now ≡ after_word self.old.rest.now }
-        ensures shorter { OnSome result (length self.new.rest.now < length self.old.rest.now) }
-        ensures word { MatchOption result (length (first_word self.old.rest.now) ≡ 0) (λ w. (w.now ≡ first_word self.old.rest.now) × (0 < length w.now)) }
-    {
+impl<'a> Iterator for Line<'a> {
+    ghost use Rattle.job_text.specs.Line.{TakesWord};
+
+    type Item = &'a [u8];
+
+    ghost next_gives = { TakesWord };
+
+    ghost remaining = { λ s. at_most (length s.rest.now) };
+
+    fn next(&mut self) -> Option<&'a [u8]> {
         let line = self.rest;
         let (_, from) = line.split_at(run_of(b' ', line));
         let (word, rest) = from.split_at(up_to(b' ', from));

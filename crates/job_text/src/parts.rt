@@ -1,11 +1,13 @@
-ghost use Rattle.std.specs.Prelude.{◌≡◌, [], ◌∷◌, MatchOption};
+ghost use Rattle.std.specs.Prelude.{◌≡◌};
 ghost use Rattle.std.specs.Option.{option_map};
+ghost use Rattle.std.specs.Iterator.{YieldsFirstRef, item_count};
 ghost use Rattle.job_text.specs.Words.{parts_of, past_first};
 ghost use Rattle.job_text.specs.Parts.{left};
 
 use crate::finds::up_to;
 
 // The parts of a text that are still to come, with a byte between them.
+// std's `split` gives the same parts, but a loop over it in a generic function stops the check.
 #[derive(Drop)]
 pub struct Parts<'a> {
     between: u8,
@@ -16,10 +18,7 @@ pub struct Parts<'a> {
 fn past_first(text: &[u8]) -> Option<&[u8]>
     ensures { option_map (λ x. x.now) result ≡ past_first text.now }
 {
-    match text.split_first() {
-        Some((_, rest)) => Some(rest),
-        None => None,
-    }
+    text.split_first().map(|(_, rest)| rest)
 }
 
 impl<'a> Parts<'a> {
@@ -31,11 +30,16 @@ impl<'a> Parts<'a> {
             rest: Some(text),
         }
     }
+}
 
-    // The next part, if there is one.
-    pub fn part(&mut self) -> Option<&'a [u8]>
-        ensures { MatchOption result ((left self.old ≡ []) × (left self.new ≡ [])) (λ p. left self.old ≡ p.now ∷ left self.new) }
-    {
+impl<'a> Iterator for Parts<'a> {
+    type Item = &'a [u8];
+
+    ghost next_gives = { YieldsFirstRef left };
+
+    ghost remaining = { item_count left };
+
+    fn next(&mut self) -> Option<&'a [u8]> {
         let text = self.rest?;
         let (part, more) = text.split_at(up_to(self.between, text));
         self.rest = past_first(more);

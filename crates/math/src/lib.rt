@@ -2,7 +2,6 @@
 // Each operation is rounded once, to binary32, in the order in which it is written.
 #![tactic(auto)]
 
-mod product;
 mod transform;
 
 pub use transform::Transform;

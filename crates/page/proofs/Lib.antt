@@ -2,4 +2,3 @@ pub mod Kept
 pub mod Lengths
 mod Packed
 mod Parts
-mod Clipped

@@ -6,18 +6,9 @@ use Rattle.std.proofs.lemmas.List.{take-append-drop, take-take, take_at, drop_at
 use Rattle.std.proofs.lemmas.Slice.{between_is}
 use Rattle.std.proofs.lemmas.Bool.{le-leb, leb-true, and_from, and_parts, cond-true}
 use Rattle.page.specs.Opened.{reader_of}
-use Rattle.page.specs.declared.misplaced.Misplaced.{Misplaced}
-use Rattle.page.specs.Parts.{part, lies, all_parts, path_tags_part, path_data_part, draw_tags_part, draw_data_part, transforms_part, styles_part}
+use Rattle.page.specs.declared.refusal.Misplaced.{Misplaced}
+use Rattle.page.specs.Parts.{Rising, part, lies, all_parts, path_tags_part, path_data_part, draw_tags_part, draw_data_part, transforms_part, styles_part}
 use Rattle.page.specs.declared.layout.Layout.{Layout}
-
--- what `lies` asks
-pub record Rising (n : ℕ) (l : Layout) : Type 0 where
-  pub path_tags : l.path_tag_base ≤ l.path_data_base
-  pub path_data : l.path_data_base ≤ l.draw_tag_base
-  pub draw_tags : l.draw_tag_base ≤ l.draw_data_base
-  pub draw_data : l.draw_data_base ≤ l.transform_base
-  pub transforms : l.transform_base ≤ l.style_base
-  pub styles : 4 * l.style_base ≤ n
 
 pub rising : (n : ℕ) (l : Layout) → lies n l ≡ true → Rising n l
 rising n l h =
@@ -71,52 +62,32 @@ middle P xs Q W i j e h k =
     ap (λ v. between (4 * i) (4 * j) v) (e ∙ append_assoc P xs Q)
     ∙ ap (take (4 * j - 4 * i)) (drop_at P (xs ++ Q) (4 * i) (sym h)) ∙ take_at xs Q (4 * j - 4 * i) (sym n)
 
-last : (P xs W : List ℕ) (i : ℕ) → W ≡ P ++ xs → 4 * i ≡ length P → drop (4 * i) W ≡ xs
-last P xs W i e h = ap (drop (4 * i)) e ∙ drop_at P xs (4 * i) (sym h)
-
 -- six lists one after the other, and a layout whose bases stand between them
-module _ (a b c d e f : List ℕ) (l : Layout) (z : l.path_tag_base ≡ 0)
-    (za : 4 * l.path_data_base ≡ length a) (zb : 4 * l.draw_tag_base ≡ length a + length b)
-    (zc : 4 * l.draw_data_base ≡ length a + length b + length c) (zd : 4 * l.transform_base ≡ length a + length b + length c + length d)
-    (ze : 4 * l.style_base ≡ length a + length b + length c + length d + length e) where
-  abbrev six : List ℕ
-  six = a ++ b ++ c ++ d ++ e ++ f
+pub record Six (W a b c d e f : List ℕ) (l : Layout) : Type 0 where
+  pub rising : Rising (length W) l
+  pub path_tags : path_tags_part W l ≡ a
+  pub path_data : path_data_part W l ≡ b
+  pub draw_tags : draw_tags_part W l ≡ c
+  pub draw_data : draw_data_part W l ≡ d
+  pub transforms : transforms_part W l ≡ e
+  pub styles : styles_part W l ≡ f
 
-  pub six_rising : Rising (length six) l
-  six_rising =
-      let p = length-append a b in
-      let q = length-append (a ++ b) c in
-      let u = length-append (a ++ b ++ c) d in
-      let v = length-append (a ++ b ++ c ++ d) e in
-      let w = length-append (a ++ b ++ c ++ d ++ e) f in
-      record { path_tags = omega arith; path_data = omega arith; draw_tags = omega arith; draw_data = omega arith; transforms = omega arith; styles = omega arith }
-
-  pub first_part : path_tags_part six l ≡ a
-  first_part = middle [] a (b ++ (c ++ (d ++ (e ++ f)))) six l.path_tag_base l.path_data_base (simp append_assoc) (omega arith) (omega arith)
-
-  pub second_part : path_data_part six l ≡ b
-  second_part = middle a b (c ++ (d ++ (e ++ f))) six l.path_data_base l.draw_tag_base (simp append_assoc) za zb
-
-  pub third_part : draw_tags_part six l ≡ c
-  third_part = let p = length-append a b in middle (a ++ b) c (d ++ (e ++ f)) six l.draw_tag_base l.draw_data_base (simp append_assoc) (omega arith) (omega arith)
-
-  pub fourth_part : draw_data_part six l ≡ d
-  fourth_part =
-      let p = length-append a b in
-      let q = length-append (a ++ b) c in
-      middle (a ++ b ++ c) d (e ++ f) six l.draw_data_base l.transform_base (simp append_assoc) (omega arith) (omega arith)
-
-  pub fifth_part : transforms_part six l ≡ e
-  fifth_part =
-      let p = length-append a b in
-      let q = length-append (a ++ b) c in
-      let u = length-append (a ++ b ++ c) d in
-      middle (a ++ b ++ c ++ d) e f six l.transform_base l.style_base refl (omega arith) (omega arith)
-
-  pub sixth_part : styles_part six l ≡ f
-  sixth_part =
-      let p = length-append a b in
-      let q = length-append (a ++ b) c in
-      let u = length-append (a ++ b ++ c) d in
-      let v = length-append (a ++ b ++ c ++ d) e in
-      last (a ++ b ++ c ++ d ++ e) f six l.style_base refl (omega arith)
+pub six_parts : (a b c d e f : List ℕ) (l : Layout) → l.path_tag_base ≡ 0 → 4 * l.path_data_base ≡ length a → 4 * l.draw_tag_base ≡ length a + length b
+    → 4 * l.draw_data_base ≡ length a + length b + length c → 4 * l.transform_base ≡ length a + length b + length c + length d
+    → 4 * l.style_base ≡ length a + length b + length c + length d + length e → Six (a ++ b ++ c ++ d ++ e ++ f) a b c d e f l
+six_parts a b c d e f l z za zb zc zd ze =
+    let W = a ++ b ++ c ++ d ++ e ++ f in
+    let p = length-append a b in
+    let q = length-append (a ++ b) c in
+    let u = length-append (a ++ b ++ c) d in
+    let v = length-append (a ++ b ++ c ++ d) e in
+    let w = length-append (a ++ b ++ c ++ d ++ e) f in
+    record {
+      rising = record { path_tags = omega arith; path_data = omega arith; draw_tags = omega arith; draw_data = omega arith; transforms = omega arith; styles = omega arith };
+      path_tags = middle [] a (b ++ (c ++ (d ++ (e ++ f)))) W l.path_tag_base l.path_data_base (simp append_assoc) (omega arith) (omega arith);
+      path_data = middle a b (c ++ (d ++ (e ++ f))) W l.path_data_base l.draw_tag_base (simp append_assoc) za zb;
+      draw_tags = middle (a ++ b) c (d ++ (e ++ f)) W l.draw_tag_base l.draw_data_base (simp append_assoc) (omega arith) (omega arith);
+      draw_data = middle (a ++ b ++ c) d (e ++ f) W l.draw_data_base l.transform_base (simp append_assoc) (omega arith) (omega arith);
+      transforms = middle (a ++ b ++ c ++ d) e f W l.transform_base l.style_base refl (omega arith) (omega arith);
+      styles = drop_at (a ++ b ++ c ++ d ++ e) f (4 * l.style_base) (omega arith);
+    }

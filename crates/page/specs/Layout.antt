@@ -7,7 +7,7 @@ use Rattle.streams.specs.declared.inserted.Inserted.{Inserted}
 use Rattle.encoding.specs.Scene.{Scene}
 use Rattle.page.specs.Page.{padded}
 use Rattle.page.specs.declared.layout.Layout.{Layout}
-use Rattle.page.specs.declared.sizes.SceneBufferSizes.{SceneBufferSizes}
+use Rattle.page.specs.declared.layout.SceneBufferSizes.{SceneBufferSizes}
 
 -- what the scene's runs insert
 abbrev pub inserted_by : Meaning → Scene → Inserted

@@ -2,7 +2,7 @@
 use Rattle.std.specs.Prelude.{ℕ, cond, List, length, Ok, Err, Result}
 use Rattle.page.specs.Parts.{lies}
 use Rattle.page.specs.declared.layout.Layout.{Layout}
-use Rattle.page.specs.declared.misplaced.Misplaced.{Misplaced}
+use Rattle.page.specs.declared.refusal.Misplaced.{Misplaced}
 use Rattle.page.specs.declared.reader.PageReader.{PageReader}
 
 abbrev pub reader_of : List ℕ → Layout → Result (List ℕ × Layout) Misplaced

@@ -6,7 +6,7 @@ use Rattle.encoding.specs.Scene.{Scene}
 use Rattle.page.specs.Page.{page_of}
 use Rattle.page.specs.Layout.{page_length, layout_of}
 use Rattle.page.specs.declared.layout.Layout.{Layout}
-use Rattle.page.specs.declared.too_long.TooLong.{TooLong}
+use Rattle.page.specs.declared.refusal.TooLong.{TooLong}
 
 -- the layout and the length, unless it is refused
 abbrev pub answered : {X : Type 0} → Layout → ℕ → Option X → Result (Layout × ℕ) X

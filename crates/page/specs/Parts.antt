@@ -1,8 +1,8 @@
 -- The parts of a page between its bases, and when a layout lies in some bytes.
-use Rattle.std.specs.Prelude.{ℕ, ◌*◌, Bool, ◌&&◌, List, ◌++◌, drop, nat_le}
+use Rattle.std.specs.Prelude.{ℕ, ◌*◌, ◌≤◌, Bool, ◌&&◌, List, ◌++◌, drop, nat_le}
 use Rattle.std.specs.List.{between}
 use Rattle.page.specs.declared.layout.Layout.{Layout}
-use Rattle.page.specs.declared.misplaced.Misplaced.{Misplaced}
+use Rattle.page.specs.declared.refusal.Misplaced.{Misplaced}
 
 -- the bytes from word a to word b
 abbrev pub part : List ℕ → ℕ → ℕ → List ℕ
@@ -35,6 +35,15 @@ abbrev pub lies : ℕ → Layout → Bool
 lies n l =
     nat_le l.path_tag_base l.path_data_base && nat_le l.path_data_base l.draw_tag_base && nat_le l.draw_tag_base l.draw_data_base
     && nat_le l.draw_data_base l.transform_base && nat_le l.transform_base l.style_base && nat_le (4 * l.style_base) n
+
+-- the same as a fact
+pub record Rising (n : ℕ) (l : Layout) : Type 0 where
+  pub path_tags : l.path_tag_base ≤ l.path_data_base
+  pub path_data : l.path_data_base ≤ l.draw_tag_base
+  pub draw_tags : l.draw_tag_base ≤ l.draw_data_base
+  pub draw_data : l.draw_data_base ≤ l.transform_base
+  pub transforms : l.transform_base ≤ l.style_base
+  pub styles : 4 * l.style_base ≤ n
 
 -- the question that a misplaced layout answers with no; it carries no value
 abbrev pub misplaced_question : Misplaced → ℕ

@@ -7,7 +7,7 @@ use Rattle.page.specs.Layout.{page_length, layout_of}
 use Rattle.page.specs.Nothing.{no_supply, no_late}
 use Rattle.page.specs.Pack.{answered, written, too_long}
 use Rattle.page.specs.declared.layout.Layout.{Layout}
-use Rattle.page.specs.declared.too_long.TooLong.{TooLong}
+use Rattle.page.specs.declared.refusal.TooLong.{TooLong}
 use Rattle.page.specs.declared.refusal.PackRefusal.{PackRefusal}
 use Rattle.page.specs.declared.refusal.PackRefusal.TheVariants.{LateBound, TooLong as Long}
 

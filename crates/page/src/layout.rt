@@ -1,5 +1,54 @@
+ghost use Rattle.std.specs.Prelude.{◌≡◌, ◌^◌, ◌<◌, ◌≤◌, length, sum_by};
+ghost use Rattle.draw.specs.Tags.{info_size};
+ghost use Rattle.page.specs.Layout.{sizes_with, buffer_size, layout_with};
+ghost use Rattle.page.specs.Viewed.{viewed};
+
+use crate::view::SceneView;
+use draw::DrawTag;
+
+// How many bytes each stream of a page has.
+#[derive(Clone, Copy, Debug)]
+pub(crate) struct SceneBufferSizes {
+    path_tag_padded: u64,
+    path_data: u64,
+    draw_tags: u64,
+    draw_data: u64,
+    transforms: u64,
+    styles: u64,
+}
+
+impl SceneBufferSizes {
+    pub(crate) fn new(scene: SceneView<'_>) -> SceneBufferSizes
+        ensures value { result ≡ sizes_with scene.entry.inserted (viewed scene.entry) }
+        ensures small { buffer_size result < 2 ^ 64 }
+    {
+        let open = scene.counts.n_open_clips as u64;
+        let tags = scene.path_tags.len() as u64 + scene.inserted.path_tags + open;
+        SceneBufferSizes {
+            path_tag_padded: tags.next_multiple_of(1024),
+            path_data: 4 * (scene.path_data.len() as u64 + scene.inserted.path_data),
+            draw_tags: 4 * (scene.draw_tags.len() as u64 + open),
+            draw_data: 4 * scene.draw_data.len() as u64,
+            transforms: 24 * (scene.transforms.len() as u64 + scene.inserted.transforms),
+            styles: 8 * (scene.styles.len() as u64 + scene.inserted.styles),
+        }
+    }
+
+    pub(crate) fn buffer_size(&self) -> u64
+        requires { buffer_size self.now < 2 ^ 64 }
+        ensures { result ≡ buffer_size self.now }
+    {
+        self.path_tag_padded
+            + self.path_data
+            + self.draw_tags
+            + self.draw_data
+            + self.transforms
+            + self.styles
+    }
+}
+
 // Layout of a packed encoding. Bases count words of four bytes.
-#[derive(Clone, Copy, Drop)]
+#[derive(Clone, Copy, Debug, PartialEq, Eq)]
 pub struct Layout {
     // Number of draw objects.
     pub n_draw_objects: u32,
@@ -21,4 +70,38 @@ pub struct Layout {
     pub transform_base: u32,
     // Start of style stream.
     pub style_base: u32,
+}
+
+impl Layout {
+    pub(crate) fn new(scene: SceneView<'_>, sizes: SceneBufferSizes) -> Layout
+        requires { buffer_size sizes ≤ 1073741824 }
+        ensures { result ≡ layout_with scene.entry.inserted (viewed scene.entry) sizes }
+    {
+        let n_paths = scene.counts.n_paths + scene.inserted.runs + scene.counts.n_open_clips;
+        let path_data = sizes.path_tag_padded;
+        let draw_tags = path_data + sizes.path_data;
+        let draw_data = draw_tags + sizes.draw_tags;
+        let transforms = draw_data + sizes.draw_data;
+        let styles = transforms + sizes.transforms;
+        Layout {
+            n_draw_objects: n_paths,
+            n_paths,
+            n_clips: scene.counts.n_clips + scene.counts.n_open_clips,
+            bin_data_start: bin_data_start(scene.draw_tags),
+            path_tag_base: 0,
+            path_data_base: (path_data / 4) as u32,
+            draw_tag_base: (draw_tags / 4) as u32,
+            draw_data_base: (draw_data / 4) as u32,
+            transform_base: (transforms / 4) as u32,
+            style_base: (styles / 4) as u32,
+        }
+    }
+}
+
+// Bin data follows draw info, of which each tag takes some words.
+fn bin_data_start(draw_tags: &[u32]) -> u32
+    requires { length draw_tags.now ≤ 1000000 }
+    ensures { result ≡ sum_by info_size draw_tags.now }
+{
+    draw_tags.iter().map(|tag| DrawTag(*tag).info_size()).sum()
 }

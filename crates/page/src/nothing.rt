@@ -1,7 +1,7 @@
 ghost use Rattle.page.specs.Nothing.{no_supply, no_late};
 
-use streams::{Bound, LateWords};
-use supply::{GlyphSupply, Outline};
+use streams::LateWords;
+use supply::{GlyphSupply, Outline, SessionKey};
 
 // The supply of a scene without runs.
 #[derive(Drop)]
@@ -10,11 +10,11 @@ pub(crate) struct NoSupply;
 impl GlyphSupply for NoSupply {
     ghost meaning = { λ _. no_supply };
 
-    fn session(&self, _font: u32, _style: u32, _size: f32) -> bool {
+    fn session(&self, _key: SessionKey) -> bool {
         false
     }
 
-    fn outline<'a>(&'a self, _font: u32, _style: u32, _size: f32, _id: u32) -> Option<Outline<'a>> {
+    fn outline(&self, _key: SessionKey, _id: u32) -> Option<Outline<'_>> {
         None
     }
 }
@@ -26,7 +26,7 @@ pub(crate) struct NoLate;
 impl LateWords for NoLate {
     ghost late = { λ _. no_late };
 
-    fn words(&self, _patch: usize) -> Bound {
-        Bound::Kept
+    fn words(&self, _patch: usize) -> &[u32] {
+        &[]
     }
 }

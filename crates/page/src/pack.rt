@@ -3,13 +3,12 @@ ghost use Rattle.streams.specs.Draw.{Owned};
 ghost use Rattle.encoding.specs.Scene.{meaning};
 ghost use Rattle.page.specs.Pack.{pack_answer, pack_buffer};
 
-use crate::layout::Layout;
-use crate::sizes::SceneBufferSizes;
-use crate::too_long::TooLong;
-use crate::viewing::view;
+use crate::layout::{Layout, SceneBufferSizes};
+use crate::refusal::TooLong;
+use crate::view::SceneView;
 use crate::writers::put_page;
 use encoding::Encoding;
-use streams::{LateWords, count_inserted};
+use streams::LateWords;
 use supply::GlyphSupply;
 
 // The longest page.
@@ -26,13 +25,12 @@ pub fn pack_page<G: GlyphSupply, L: LateWords>(
     ensures answer { result ≡ pack_answer (G.GlyphSupply.meaning supply.now) (meaning encoding.now) (length packed.old) }
     ensures bytes { packed.new ≡ pack_buffer (G.GlyphSupply.meaning supply.now) (L.LateWords.late late.now) (meaning encoding.now) packed.old }
 {
-    let scene = view(encoding);
-    let inserted = count_inserted(supply, scene.glyphs, scene.glyph_runs);
-    let sizes = SceneBufferSizes::new(scene, &inserted);
+    let scene = SceneView::new(encoding, supply);
+    let sizes = SceneBufferSizes::new(scene);
     let needed = sizes.buffer_size();
     if needed > MAX_LENGTH || needed > packed.len() as u64 {
         return Err(TooLong { needed });
     }
     let length = put_page(supply, late, scene, packed);
-    Ok((Layout::new(scene, &inserted, &sizes), length))
+    Ok((Layout::new(scene, sizes), length))
 }

@@ -1,21 +1,12 @@
 ghost use Rattle.std.specs.Prelude.{◌≡◌, length};
 ghost use Rattle.encoding.specs.Scene.{meaning};
-ghost use Rattle.page.specs.Plain.{refusal_of, plain_answer, plain_buffer};
+ghost use Rattle.page.specs.Plain.{plain_answer, plain_buffer};
 
 use crate::layout::Layout;
 use crate::nothing::{NoLate, NoSupply};
 use crate::pack::pack_page;
 use crate::refusal::PackRefusal;
-use crate::too_long::TooLong;
 use encoding::Encoding;
-
-impl From<TooLong> for PackRefusal {
-    ghost from_gives = { λ q r. r ≡ refusal_of q };
-
-    fn from(q: TooLong) -> PackRefusal {
-        PackRefusal::TooLong { needed: q.needed }
-    }
-}
 
 // Resolves and packs an encoding that contains only paths with solid color fills, into the start of `packed`.
 // Answers the layout and the length of the page; a refusal leaves `packed` as it was.
@@ -29,6 +20,5 @@ pub fn resolve_solid_paths_only(
     if !encoding.patches().is_empty() {
         return Err(PackRefusal::LateBound);
     }
-    let page = pack_page(encoding, &NoSupply, &NoLate, packed)?;
-    Ok(page)
+    Ok(pack_page(encoding, &NoSupply, &NoLate, packed)?)
 }

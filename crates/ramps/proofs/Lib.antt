@@ -1,9 +1,9 @@
 pub mod SameKeys
-pub mod Lowest
-pub mod Stored
-pub mod Steps
-pub mod Parted
+pub mod Mapped
+pub mod Picked
 pub mod Sheets
+pub mod Drawn
 pub mod Stepping
 pub mod Paging
+pub mod Added
 pub mod Lawful

@@ -1,17 +1,18 @@
 -- A gradient's row, once found, stays the row of its key to the end of the page.
-use Rattle.std.proofs.Common.{◌≡◌, ℕ, zero, suc, ◌+◌, ◌<◌, ◌⊎◌, List, [], ◌∷◌, ◌++◌, length, get_or, set, Some, None, Ok, Err, Option, sym, refl, ap, ◌∙◌, subst, inl, inr, arith, length-take}
+use Rattle.std.proofs.Common.{◌≡◌, ℕ, zero, suc, ◌+◌, ◌<◌, ◌≤◌, ◌⊎◌, List, [], ◌∷◌, ◌++◌, length, get_or, set, Some, None, Ok, Err, Option, sym, refl, ap, ◌∙◌, subst, inl, inr, arith, length-take}
 use Rattle.std.specs.List.{between}
 use Rattle.std.proofs.lemmas.List.{length-set, get_or-set_same, get_or-set_other, get_or_append_left, length_push, get_or_push, get_or-take}
+use Rattle.std.proofs.lemmas.List.Quantifiers.{position-Some}
 use Rattle.std.proofs.lemmas.Bool.{cases_eq}
 use Rattle.draw.specs.declared.color.StopBits.{StopBits}
 use Rattle.records.specs.declared.patch.Patch.{Patch}
 use Rattle.records.specs.declared.patch.Patch.TheVariants.{Ramp, GlyphRun, Image}
-use Rattle.ramps.specs.Rows.{RampRow, used_on, no_row, has_key, row_with, Chosen, added_for, added_from, and_then, maintained, rows_for}
+use Rattle.ramps.specs.Rows.{RampRow, used_on, no_row, has_key, row_with, Chosen, added, added_for, added_from, and_then, maintained, rows_for}
 use Rattle.ramps.specs.Sheet.{row_words}
-use Rattle.ramps.specs.Laws.{key_at, last_at, New, Step, again, rewrites, adds, refuses, Sound, Kept, Finds, FindsFor, Page}
-use Rattle.ramps.proofs.SameKeys.{key_from}
+use Rattle.ramps.specs.Laws.{key_at, last_at, Step, again, rewrites, adds, refuses, Distinct, Sound, Kept, Finds, FindsFor, Page}
+use Rattle.ramps.proofs.SameKeys.{key_decides}
 use Rattle.ramps.proofs.Sheets.{sheet_part}
-use Rattle.ramps.proofs.Stepping.{found_from, new_from, step_law}
+use Rattle.ramps.proofs.Stepping.{new_from, step_law}
 
 abbrev key_of : RampRow → List StopBits
 key_of r = r.key
@@ -20,71 +21,55 @@ key_of r = r.key
 row_go : (ts : List RampRow) (k : List StopBits) (at : ℕ) (o : Option ℕ) → row_with k ts ≡ o → Sound ts → at < length ts → key_at ts at ≡ k → row_with k ts ≡ Some at
 row_go ts k at None e s h q = absurd (new_from k ts e at h q)
 row_go ts k at (Some b) e s h q =
-    let f = found_from (has_key k) ts b e in
-    e ∙ ap Some (s.distinct b at f.within h (key_from _ _ f.passes ∙ sym q))
+    let f = position-Some (has_key k) ts b no_row e in
+    e ∙ ap Some (s.distinct b at f.0 h ((key_decides _ _).0 f.1 ∙ sym q))
 
 row_at : (ts : List RampRow) (k : List StopBits) (at : ℕ) → Sound ts → at < length ts → key_at ts at ≡ k → row_with k ts ≡ Some at
 row_at ts k at = row_go ts k at (row_with k ts) refl
 
--- ---- one row is set
+-- ---- one row is set or added
 
-module _ (rs : List RampRow) (at : ℕ) (v : RampRow) (l : at < length rs) where
-  set_here : (i : ℕ) → i ≡ at → get_or (set rs at v) i no_row ≡ v
-  set_here i e = ap (λ n. get_or (set rs at v) n no_row) e ∙ get_or-set_same rs at v no_row l
+-- ts is rs but for the row `at`, which is v
+record Changed (rs : List RampRow) (at : ℕ) (v : RampRow) (ts : List RampRow) : Type 0 where
+  within : at < length ts
+  grows : length rs ≤ length ts
+  here : get_or ts at no_row ≡ v
+  there : (i : ℕ) → i < length ts → (i ≡ at → ⊥) → (i < length rs) × (get_or ts i no_row ≡ get_or rs i no_row)
 
-  set_there : (i : ℕ) → (i ≡ at → ⊥) → get_or (set rs at v) i no_row ≡ get_or rs i no_row
-  set_there i e = get_or-set_other rs at i v no_row e
+set_changed : (rs : List RampRow) (at : ℕ) (v : RampRow) → at < length rs → Changed rs at v (set rs at v)
+set_changed rs at v l =
+    let n = length-set rs at v in
+    record { within = omega arith; grows = omega arith; here = get_or-set_same rs at v no_row l; there = λ i h d. (omega arith, get_or-set_other rs at i v no_row d) }
 
-  set_distinct : Sound rs → ((j : ℕ) → j < length rs → (j ≡ at → ⊥) → key_at rs j ≡ v.key → ⊥) → (i j : ℕ) → i < length rs → j < length rs
-      → key_at (set rs at v) i ≡ key_at (set rs at v) j → ((i ≡ at) ⊎ (i ≡ at → ⊥)) → ((j ≡ at) ⊎ (j ≡ at → ⊥)) → i ≡ j
-  set_distinct s o i j h m e (inl a) (inl b) = omega arith
-  set_distinct s o i j h m e (inl a) (inr b) = absurd (o j m b (ap key_of (sym (set_there j b)) ∙ sym e ∙ ap key_of (set_here i a)))
-  set_distinct s o i j h m e (inr a) (inl b) = absurd (o i h a (ap key_of (sym (set_there i a)) ∙ e ∙ ap key_of (set_here j b)))
-  set_distinct s o i j h m e (inr a) (inr b) = s.distinct i j h m (ap key_of (sym (set_there i a)) ∙ e ∙ ap key_of (set_there j b))
+push_changed : (rs : List RampRow) (v : RampRow) → Changed rs (length rs) v (rs ++ v ∷ [])
+push_changed rs v =
+    let n = length_push rs v in
+    record {
+      within = omega arith;
+      grows = omega arith;
+      here = get_or_push rs v no_row (length rs) refl;
+      there = λ i h d. (let l : i < length rs = omega arith in (l, get_or_append_left rs (v ∷ []) no_row i l));
+    }
 
-  set_sound : Sound rs → ((j : ℕ) → j < length rs → (j ≡ at → ⊥) → key_at rs j ≡ v.key → ⊥) → Sound (set rs at v)
-  set_sound s o =
-      let n = length-set rs at v in
-      let f = s.few in
-      record { few = omega arith; distinct = λ i j h m e. set_distinct s o i j (omega arith) (omega arith) e (cases_eq i at) (cases_eq j at) }
+module _ (rs ts : List RampRow) (at : ℕ) (v : RampRow) (c : Changed rs at v ts) where
+  here_key : (i : ℕ) → i ≡ at → key_at ts i ≡ v.key
+  here_key i e = ap (key_at ts) e ∙ ap key_of c.here
 
-  kept_go : (p : ℕ) → (last_at rs at ≡ p → v ≡ get_or rs at no_row) → (i : ℕ) → last_at rs i ≡ p → ((i ≡ at) ⊎ (i ≡ at → ⊥)) → get_or (set rs at v) i no_row ≡ get_or rs i no_row
-  kept_go p o i e (inl a) = set_here i a ∙ o (ap (last_at rs) (sym a) ∙ e) ∙ ap (λ n. get_or rs n no_row) (sym a)
-  kept_go p o i e (inr a) = set_there i a
+  changed_distinct : Sound rs → ((j : ℕ) → j < length rs → (j ≡ at → ⊥) → key_at rs j ≡ v.key → ⊥) → (i j : ℕ) → i < length ts → j < length ts
+      → key_at ts i ≡ key_at ts j → ((i ≡ at) ⊎ (i ≡ at → ⊥)) → ((j ≡ at) ⊎ (j ≡ at → ⊥)) → i ≡ j
+  changed_distinct s o i j h m e (inl a) (inl b) = omega arith
+  changed_distinct s o i j h m e (inl a) (inr b) = let f = c.there j m b in absurd (o j f.0 b (ap key_of (sym f.1) ∙ sym e ∙ here_key i a))
+  changed_distinct s o i j h m e (inr a) (inl b) = let f = c.there i h a in absurd (o i f.0 a (ap key_of (sym f.1) ∙ e ∙ here_key j b))
+  changed_distinct s o i j h m e (inr a) (inr b) =
+      let f = c.there i h a in
+      let g = c.there j m b in
+      s.distinct i j f.0 g.0 (ap key_of (sym f.1) ∙ e ∙ ap key_of g.1)
 
-  set_kept : (p : ℕ) → (last_at rs at ≡ p → v ≡ get_or rs at no_row) → Kept p rs (set rs at v)
-  set_kept p o i h e = let n = length-set rs at v in (omega arith, kept_go p o i e (cases_eq i at))
-
--- ---- one row is added
-
-module _ (rs : List RampRow) (v : RampRow) where
-  push_here : (i : ℕ) → i ≡ length rs → get_or (rs ++ v ∷ []) i no_row ≡ v
-  push_here i e = get_or_push rs v no_row i (sym e)
-
-  push_there : (i : ℕ) → i < length rs → get_or (rs ++ v ∷ []) i no_row ≡ get_or rs i no_row
-  push_there i h = get_or_append_left rs (v ∷ []) no_row i h
-
-  push_distinct : Sound rs → New v.key rs → (i j : ℕ) → i < length rs + 1 → j < length rs + 1
-      → key_at (rs ++ v ∷ []) i ≡ key_at (rs ++ v ∷ []) j → ((i ≡ length rs) ⊎ (i ≡ length rs → ⊥)) → ((j ≡ length rs) ⊎ (j ≡ length rs → ⊥)) → i ≡ j
-  push_distinct s o i j h m e (inl a) (inl b) = omega arith
-  push_distinct s o i j h m e (inl a) (inr b) =
-      let k : j < length rs = omega arith in
-      absurd (o j k (ap key_of (sym (push_there j k)) ∙ sym e ∙ ap key_of (push_here i a)))
-  push_distinct s o i j h m e (inr a) (inl b) =
-      let k : i < length rs = omega arith in
-      absurd (o i k (ap key_of (sym (push_there i k)) ∙ e ∙ ap key_of (push_here j b)))
-  push_distinct s o i j h m e (inr a) (inr b) =
-      let k : i < length rs = omega arith in
-      let n : j < length rs = omega arith in
-      s.distinct i j k n (ap key_of (sym (push_there i k)) ∙ e ∙ ap key_of (push_there j n))
-
-  push_sound : Sound rs → length rs < 96 → New v.key rs → Sound (rs ++ v ∷ [])
-  push_sound s l o =
-      let n = length_push rs v in
-      record { few = omega arith; distinct = λ i j h m e. push_distinct s o i j (omega arith) (omega arith) e (cases_eq i (length rs)) (cases_eq j (length rs)) }
-
-  push_kept : (p : ℕ) → Kept p rs (rs ++ v ∷ [])
-  push_kept p i h e = let n = length_push rs v in (omega arith, push_there i h)
+  changed_kept : (p : ℕ) → (at < length rs → last_at rs at ≡ p → v ≡ get_or rs at no_row) → (i : ℕ) → i < length rs → last_at rs i ≡ p
+      → ((i ≡ at) ⊎ (i ≡ at → ⊥)) → get_or ts i no_row ≡ get_or rs i no_row
+  changed_kept p o i h e (inl a) =
+      ap (λ n. get_or ts n no_row) a ∙ c.here ∙ o (omega arith) (ap (last_at rs) (sym a) ∙ e) ∙ ap (λ n. get_or rs n no_row) (sym a)
+  changed_kept p o i h e (inr a) = let g = c.grows in (c.there i (omega arith) a).1
 
 -- ---- one patch
 
@@ -108,22 +93,37 @@ abbrev Takes : ℕ → List RampRow → (List RampRow → Type 0) → Chosen →
 Takes p rs Held (Ok ts) = Took p rs ts (Held ts)
 Takes p rs Held (Err f) = Unit {0}
 
-set_takes : (p : ℕ) (k : List StopBits) (rs : List RampRow) (at : ℕ) → at < length rs → Sound rs
-    → ((j : ℕ) → j < length rs → (j ≡ at → ⊥) → key_at rs j ≡ k → ⊥) → (last_at rs at ≡ p → used_on p k ≡ get_or rs at no_row) → Took p rs (set rs at (used_on p k)) (Holds p k (set rs at (used_on p k)))
-set_takes p k rs at l s o q =
-    let v = used_on p k in
-    let n = length-set rs at v in
-    record { sound = set_sound rs at v l s o; kept = set_kept rs at v l p q; held = record { row = at; within = omega arith; is = get_or-set_same rs at v no_row l } }
+-- a row gets the key k, which no other has, and stays if page p used it before
+changed_takes : (p : ℕ) (k : List StopBits) (rs ts : List RampRow) (at : ℕ) → Changed rs at (used_on p k) ts → length ts ≤ 96 → Sound rs
+    → ((j : ℕ) → j < length rs → (j ≡ at → ⊥) → key_at rs j ≡ k → ⊥) → (at < length rs → last_at rs at ≡ p → used_on p k ≡ get_or rs at no_row) → Took p rs ts (Holds p k ts)
+changed_takes p k rs ts at c l s o q =
+    let g = c.grows in
+    record {
+      sound = record { few = l; distinct = λ i j h m e. changed_distinct rs ts at (used_on p k) c s o i j h m e (cases_eq i at) (cases_eq j at) };
+      kept = λ i h e. (omega arith, changed_kept rs ts at (used_on p k) c p q i h e (cases_eq i at));
+      held = record { row = at; within = c.within; is = c.here };
+    }
 
 step_takes : (p n : ℕ) (k : List StopBits) (rs : List RampRow) (o : Chosen) → Sound rs → Step p n k rs o → Takes p rs (Holds p k) o
 step_takes p n k rs _ s (again i h q) =
-    set_takes p k rs i h s (λ j l m e. m (s.distinct j i l h (e ∙ sym q))) (λ z. ap (used_on p) (sym q) ∙ ap (λ m. used_on m (key_at rs i)) (sym z))
-step_takes p n k rs _ s (rewrites u f i h old least) = set_takes p k rs i h s (λ j l m e. u j l e) (λ z. absurd (omega arith))
-step_takes p n k rs _ s (adds u f h) =
-    let v = used_on p k in
-    let m = length_push rs v in
-    record { sound = push_sound rs v s h u; kept = push_kept rs v p; held = record { row = length rs; within = omega arith; is = push_here rs v (length rs) refl } }
-step_takes p n k rs _ s (refuses u f h) = tt
+    let m = length-set rs i (used_on p k) in
+    let f = s.few in
+    changed_takes p k rs _ i (set_changed rs i _ h) (omega arith) s (λ j l d e. d (s.distinct j i l h (e ∙ sym q)))
+    (λ l z. ap (used_on p) (sym q) ∙ ap (λ y. used_on y (key_at rs i)) (sym z))
+step_takes p n k rs _ s (rewrites u w i h old least) =
+    let m = length-set rs i (used_on p k) in
+    let f = s.few in
+    changed_takes p k rs _ i (set_changed rs i _ h) (omega arith) s (λ j l d e. u j l e) (λ l z. absurd (omega arith))
+step_takes p n k rs _ s (adds u w h) =
+    let m = length_push rs (used_on p k) in
+    changed_takes p k rs _ (length rs) (push_changed rs _) (omega arith) s (λ j l d e. u j l e) (λ l z. absurd (omega arith))
+step_takes p n k rs _ s (refuses u w h) = tt
+
+-- rows stay distinct
+pub added_distinct : (p n : ℕ) (k : List StopBits) (rs ts : List RampRow) → Sound rs → added p n k rs ≡ Ok ts → Distinct ts
+added_distinct p n k rs ts s e =
+    let t : Took p rs ts (Holds p k ts) = subst (Takes p rs (Holds p k)) e (step_takes p n k rs (added p n k rs) s (step_law p n k rs)) in
+    t.sound.distinct
 
 module _ (p : ℕ) (stops : List StopBits) where
   patch_takes : (n : ℕ) (x : Patch) (rs : List RampRow) → Sound rs → Takes p rs (λ ts. HoldsFor p stops ts x) (added_for p stops n x rs)
@@ -167,7 +167,7 @@ module _ (p : ℕ) (stops : List StopBits) where
 
   none_kept : (n : ℕ) (rs : List RampRow) (before later : List Patch) (ms : List RampRow) → [] ≡ before ++ later → added_from p stops n before rs ≡ Ok ms → Kept p ms rs
   none_kept n rs [] later ms q r = let z : rs ≡ ms = cc in subst (λ (ys : List RampRow). Kept p ys rs) z (λ i h e. (h, refl))
-  none_kept n rs (x ∷ xs) later ms q r = let z : ◌≡◌ {A = ℕ} 0 1 = cc in absurd (omega arith)
+  none_kept n rs (x ∷ xs) later ms q r = cc
 
   module _ (n : ℕ) (x : Patch) (xs : List Patch) (rs ms ts : List RampRow) (e : added_for p stops n x rs ≡ Ok ms) (a : Took p rs ms (HoldsFor p stops ms x)) (d : Passed (n + 1) xs ms ts) where
     rest_kept : Kept p ms ts
@@ -198,17 +198,15 @@ module _ (p : ℕ) (stops : List StopBits) where
   all_pass n [] rs s = record { sound = s; finds = λ i d h. absurd (omega arith); kept = none_kept n rs }
   all_pass n (x ∷ xs) rs s = go_on n x xs rs (added_for p stops n x rs) refl (patch_takes n x rs s) (all_pass (n + 1) xs)
 
-maintained_sound : (rs : List RampRow) → Sound rs → Sound (maintained rs)
-maintained_sound rs s =
+pub maintained_distinct : (rs : List RampRow) → Distinct rs → Distinct (maintained rs)
+maintained_distinct rs s i j h m e =
     let n = length-take 64 rs in
-    let f = s.few in
-    record {
-      few = omega arith;
-      distinct = λ i j h m e.
-          (let a : i < 64 = omega arith in
-          let b : j < 64 = omega arith in
-          s.distinct i j (omega arith) (omega arith) (ap key_of (sym (get_or-take 64 rs i no_row a)) ∙ e ∙ ap key_of (get_or-take 64 rs j no_row b)));
-    }
+    let a : i < 64 = omega arith in
+    let b : j < 64 = omega arith in
+    s i j (omega arith) (omega arith) (ap key_of (sym (get_or-take 64 rs i no_row a)) ∙ e ∙ ap key_of (get_or-take 64 rs j no_row b))
+
+maintained_sound : (rs : List RampRow) → Sound rs → Sound (maintained rs)
+maintained_sound rs s = let n = length-take 64 rs in let f = s.few in record { few = omega arith; distinct = maintained_distinct rs s.distinct }
 
 pub page_law : (p : ℕ) (stops : List StopBits) (patches : List Patch) (rs ts : List RampRow) → Sound rs → rows_for p stops patches rs ≡ Ok ts → Page p stops patches rs ts
 page_law p stops patches rs ts s e =

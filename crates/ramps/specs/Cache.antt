@@ -1,7 +1,7 @@
 -- What a cache holds.
 use Rattle.std.specs.Prelude.{List, Ok, Err, Result}
 use Rattle.ramps.specs.Rows.{RampRow, Chosen}
-use Rattle.ramps.specs.View.{rows_of}
+use Rattle.ramps.specs.Held.{rows_of}
 use Rattle.ramps.specs.declared.fault.RampFault.{RampFault}
 use Rattle.ramps.specs.declared.ramp_cache.RampCache.{RampCache}
 use Rattle.ramps.specs.declared.rows.Rows.{Rows}

@@ -1,5 +1,5 @@
 -- What the rows of a page are, in the words of their rules.
-use Rattle.std.specs.Prelude.{◌≡◌, ℕ, ◌+◌, ◌-◌, ◌*◌, ◌<◌, ◌≤◌, List, [], ◌∷◌, ◌++◌, length, get_or, drop, replicate, Some, Ok, Err, Decides, ◌≢◌, slice_index_or, slice_set}
+use Rattle.std.specs.Prelude.{◌≡◌, ℕ, ◌+◌, ◌-◌, ◌*◌, ◌<◌, ◌≤◌, List, [], ◌∷◌, ◌++◌, length, drop, replicate, Some, Ok, Err, Decides, ◌≢◌, slice_index_or, slice_set}
 use Rattle.std.specs.List.{between}
 use Rattle.draw.specs.declared.color.StopBits.{StopBits}
 use Rattle.records.specs.declared.patch.Patch.{Patch}
@@ -10,10 +10,10 @@ use Rattle.ramps.specs.Rows.{RampRow, used_on, no_row, row_with, Chosen, added, 
 use Rattle.ramps.specs.Sheet.{samples_of, part, sheet_of}
 
 abbrev pub key_at : List RampRow → ℕ → List StopBits
-key_at rs i = (get_or rs i no_row).key
+key_at rs i = (slice_index_or rs i no_row).key
 
 abbrev pub last_at : List RampRow → ℕ → ℕ
-last_at rs i = (get_or rs i no_row).last
+last_at rs i = (slice_index_or rs i no_row).last
 
 -- ---- one gradient, of patch n, with the key k, on page p
 
@@ -37,10 +37,14 @@ pub data Step (p n : ℕ) (k : List StopBits) (rs : List RampRow) : Chosen → T
 
 -- ---- a page
 
--- what rows keep from page to page: there are at most 96, of which no two have the same key
+-- no two rows have the same key
+abbrev pub Distinct : List RampRow → Type 0
+Distinct rs = (i j : ℕ) → i < length rs → j < length rs → key_at rs i ≡ key_at rs j → i ≡ j
+
+-- what rows keep from page to page: there are at most 96, and they are distinct
 pub record Sound (rs : List RampRow) : Type 0 where
   pub few : length rs ≤ 96
-  pub distinct : (i j : ℕ) → i < length rs → j < length rs → key_at rs i ≡ key_at rs j → i ≡ j
+  pub distinct : Distinct rs
 
 -- a row that page p used stays as it is
 abbrev pub Kept : ℕ → List RampRow → List RampRow → Type 0
@@ -51,7 +55,7 @@ pub record Finds (p : ℕ) (k : List StopBits) (ts : List RampRow) : Type 0 wher
   pub row : ℕ
   pub found : row_with k ts ≡ Some row
   pub within : row < length ts
-  pub holds : get_or ts row no_row ≡ used_on p k
+  pub holds : slice_index_or ts row no_row ≡ used_on p k
   pub samples : part row (sheet_of ts) ≡ samples_of k
 
 abbrev pub FindsFor : ℕ → List StopBits → List RampRow → Patch → Type 0

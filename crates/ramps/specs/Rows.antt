@@ -1,6 +1,6 @@
 -- How the gradients of a page find their rows.
-use Rattle.std.specs.Prelude.{ℕ, ◌+◌, ◌≤◌, Bool, cond, List, [], ◌∷◌, ◌++◌, length, take, Some, None, Ok, Err, Option, Result, nat_le, nat_lt, slice_set}
-use Rattle.std.specs.List.{between}
+use Rattle.std.specs.Prelude.{ℕ, ◌+◌, ◌≤◌, Bool, if◌then◌else◌, List, [], ◌∷◌, ◌++◌, length, take, Some, None, Ok, Err, Option, Result, nat_le, nat_lt, slice_set}
+use Rattle.std.specs.List.{between, position}
 use Rattle.std.specs.Option.{option_or}
 use Rattle.draw.specs.declared.color.StopBits.{StopBits}
 use Rattle.records.specs.declared.patch.Patch.{Patch}
@@ -20,11 +20,6 @@ used_on p k = record { key = k; last = p }
 abbrev pub no_row : RampRow
 no_row = used_on 0 []
 
--- the lowest row that passes a test, where the first of the rows is row i
-abbrev pub lowest_from : (RampRow → Bool) → ℕ → List RampRow → Option ℕ
-lowest_from t i [] = None
-lowest_from t i (r ∷ rs) = cond (t r) (Some i) (lowest_from t (i + 1) rs)
-
 abbrev pub has_key : List StopBits → RampRow → Bool
 has_key k r = same_key r.key k
 
@@ -34,11 +29,11 @@ is_stale p r = nat_lt (r.last + 2) p
 
 -- the row that has the key
 abbrev pub row_with : List StopBits → List RampRow → Option ℕ
-row_with k rs = lowest_from (has_key k) 0 rs
+row_with k rs = position (has_key k) rs
 
 -- the row that page p may rewrite: with 64 rows or more, the lowest stale one
 abbrev pub rewritable : ℕ → List RampRow → Option ℕ
-rewritable p rs = cond (nat_le 64 (length rs)) (lowest_from (is_stale p) 0 rs) None
+rewritable p rs = if nat_le 64 (length rs) then position (is_stale p) rs else None
 
 -- the rows after a step, or the fault
 abbrev pub Chosen : Type 0
@@ -46,7 +41,7 @@ Chosen = Result (List RampRow) RampFault
 
 -- a row behind the others, if there are fewer than 96
 abbrev pub pushed : ℕ → ℕ → List StopBits → List RampRow → Chosen
-pushed p n k rs = cond (nat_lt (length rs) 96) (Ok (rs ++ used_on p k ∷ [])) (Err (Full n))
+pushed p n k rs = if nat_lt (length rs) 96 then Ok (rs ++ used_on p k ∷ []) else Err (Full n)
 
 -- the key in the row that is named, which may have it already, or in a new row
 abbrev pub put_at : ℕ → ℕ → List StopBits → List RampRow → Option ℕ → Chosen

@@ -1,10 +1,10 @@
 -- The samples of the rows, and the sheet that has them all.
-use Rattle.std.specs.Prelude.{◌≡◌, ℕ, ◌-◌, ◌*◌, ◌<◌, List, ◌++◌, map, length, take, drop, replicate, slice_index_or}
+use Rattle.std.specs.Prelude.{◌≡◌, ℕ, ◌-◌, ◌*◌, List, ◌++◌, map, length, take, drop, replicate}
 use Rattle.std.specs.List.{flat_map}
 use Rattle.draw.specs.Color.{stop_of}
 use Rattle.draw.specs.Ramp.{samples}
 use Rattle.draw.specs.declared.color.StopBits.{StopBits}
-use Rattle.ramps.specs.Rows.{RampRow, no_row}
+use Rattle.ramps.specs.Rows.{RampRow}
 
 abbrev pub samples_of : List StopBits → List ℕ
 samples_of k = samples (map stop_of k)
@@ -20,6 +20,6 @@ sheet_of rs = flat_map row_words rs ++ replicate (49152 - 512 * length rs) 0
 abbrev pub part : ℕ → List ℕ → List ℕ
 part i words = take 512 (drop (512 * i) words)
 
--- the words of each row are its samples
-abbrev pub Drawn : List RampRow → List ℕ → Type 0
-Drawn rs words = (i : ℕ) → i < length rs → part i words ≡ row_words (slice_index_or rs i no_row)
+-- the first samples are those of the rows
+abbrev pub Drawn : List RampRow → List (List ℕ) → Type 0
+Drawn rs all = take (length rs) all ≡ map row_words rs

@@ -1,6 +1,6 @@
 pub mod Numbers
-pub mod Every
 pub mod Finite
 pub mod Unit
 pub mod Words
 pub mod Moved
+pub mod Counts

@@ -1,5 +1,5 @@
 -- The numbers of refusals and of extends.
-use Rattle.std.specs.Prelude.{ℕ, cond, ◌==◌}
+use Rattle.std.specs.Prelude.{ℕ, cond, ◌==◌, Ok, Err, Result, nat_le}
 use Rattle.records.specs.declared.refusal.Refusal.{Refusal}
 use Rattle.records.specs.declared.refusal.Refusal.TheVariants.{NotFinite, OutOfRange, Full, TooMany}
 use Rattle.records.specs.declared.patch.Extend.{Extend}
@@ -20,3 +20,7 @@ extend_number Reflect = 2
 -- of a number up to 2
 abbrev pub extend_of : ℕ → Extend
 extend_of n = cond (n == 0) Pad (cond (n == 1) Repeat Reflect)
+
+-- a number past 2 is out of range
+abbrev pub extend_from : ℕ → Result Extend Refusal
+extend_from n = cond (nat_le n 2) (Ok (extend_of n)) (Err OutOfRange)

@@ -1,4 +1,4 @@
-ghost use Rattle.std.specs.Prelude.{◌≡◌};
+ghost use Rattle.std.specs.Prelude.{◌≡◌, [], ◌∷◌};
 ghost use Rattle.math.specs.Finite.{all_finite};
 ghost use Rattle.records.specs.Finite.{glyph_finite, stop_finite, given_finite, attributes_finite};
 
@@ -26,15 +26,19 @@ impl Test<Glyph> for IsFinite {
     }
 }
 
+// The five numbers of a stop.
+pub(crate) fn numbers(stop: &ColorStop) -> [f32; 5]
+    ensures { result ≡ stop.now.offset ∷ stop.now.color.r ∷ stop.now.color.g ∷ stop.now.color.b ∷ stop.now.color.a ∷ [] }
+{
+    let c = stop.color;
+    [stop.offset, c.r, c.g, c.b, c.a]
+}
+
 impl Test<ColorStop> for IsFinite {
     ghost passes = { stop_finite };
 
     fn test(x: &ColorStop) -> bool {
-        x.offset.is_finite()
-            && x.color.r.is_finite()
-            && x.color.g.is_finite()
-            && x.color.b.is_finite()
-            && x.color.a.is_finite()
+        numbers(x).iter().all(|n| n.is_finite())
     }
 }
 
@@ -42,10 +46,7 @@ impl Test<ColorStop> for IsFinite {
 pub fn is_given_finite(transform: Option<Transform>) -> bool
     ensures { result ≡ given_finite transform }
 {
-    match transform {
-        Some(t) => t.is_finite(),
-        None => true,
-    }
+    transform.map_or(true, |t| t.is_finite())
 }
 
 impl RunAttributes {

@@ -4,12 +4,9 @@
 mod finite;
 mod glyph;
 mod image;
-mod image_words;
 mod patch;
-mod patch_calls;
 mod question;
 mod refusal;
-mod refusal_number;
 mod scene;
 mod shifts;
 mod style;

@@ -1,9 +1,44 @@
+use crate::refusal::Refusal;
+
 // How a gradient goes on past its ends.
-#[derive(Clone, Copy, Drop)]
+#[derive(Clone, Copy, Debug, PartialEq, Eq, Hash)]
 pub enum Extend {
     Pad,
     Repeat,
     Reflect,
+}
+
+impl TryFrom<u32> for Extend {
+    ghost use Rattle.std.specs.Prelude.{◌≡◌};
+    ghost use Rattle.records.specs.Numbers.{extend_from};
+
+    type Error = Refusal;
+
+    ghost try_from_gives = { λ n r. r ≡ extend_from n };
+
+    fn try_from(n: u32) -> Result<Extend, Refusal> {
+        match n {
+            0 => Ok(Extend::Pad),
+            1 => Ok(Extend::Repeat),
+            2 => Ok(Extend::Reflect),
+            _ => Err(Refusal::OutOfRange),
+        }
+    }
+}
+
+impl From<Extend> for u32 {
+    ghost use Rattle.std.specs.Prelude.{◌≡◌};
+    ghost use Rattle.records.specs.Numbers.{extend_number};
+
+    ghost from_gives = { λ extend n. n ≡ extend_number extend };
+
+    fn from(extend: Extend) -> u32 {
+        match extend {
+            Extend::Pad => 0,
+            Extend::Repeat => 1,
+            Extend::Reflect => 2,
+        }
+    }
 }
 
 // The two points of a linear gradient.
@@ -13,8 +48,22 @@ pub struct DrawLinearGradient {
     pub p1: [f32; 2],
 }
 
+impl DrawLinearGradient {
+    ghost use Rattle.std.specs.Prelude.{◌≡◌};
+    ghost use Rattle.records.specs.Finite.{points_finite};
+
+    pub fn is_finite(&self) -> bool
+        ensures { result ≡ points_finite self.now }
+    {
+        self.p0[0].is_finite()
+            && self.p0[1].is_finite()
+            && self.p1[0].is_finite()
+            && self.p1[1].is_finite()
+    }
+}
+
 // What is bound late: the draw word of a ramp, the outlines of a run, the two draw words of a picture.
-#[derive(Clone, Copy, Drop)]
+#[derive(Clone, Copy, Debug, PartialEq, Eq, Hash)]
 pub enum Patch {
     Ramp {
         draw_data_offset: usize,

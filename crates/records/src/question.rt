@@ -1,5 +1,5 @@
 ghost use Rattle.std.specs.Prelude.{◌≡◌, Bool};
-ghost use Rattle.records.specs.Every.{all};
+ghost use Rattle.std.specs.List.{list_all};
 
 // A question about one entry of a list.
 pub trait Test<T> {
@@ -11,12 +11,7 @@ pub trait Test<T> {
 
 // Whether each entry passes.
 pub fn every<T, P: Test<T>>(xs: &[T]) -> bool
-    ensures { result ≡ all P.Test.passes xs.now }
+    ensures { result ≡ list_all P.Test.passes xs.now }
 {
-    for x in xs {
-        if !P::test(x) {
-            return false;
-        }
-    }
-    true
+    xs.iter().all(|x| P::test(x))
 }

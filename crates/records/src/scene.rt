@@ -1,5 +1,6 @@
 use crate::style::Style;
 use math::Transform;
+use std::ops::AddAssign;
 
 // How many entries each list of a scene is to have room for.
 #[derive(Clone, Copy, Drop)]
@@ -28,10 +29,27 @@ pub struct Streams<'a> {
 }
 
 // The four counts of a scene.
-#[derive(Clone, Copy, Drop)]
+#[derive(Clone, Copy, Default, Drop)]
 pub struct Counts {
     pub n_paths: u32,
     pub n_path_segments: u32,
     pub n_clips: u32,
     pub n_open_clips: u32,
+}
+
+impl AddAssign for Counts {
+    ghost use Rattle.std.specs.Prelude.{◌≡◌};
+    ghost use Rattle.records.specs.Counts.{added, Fit};
+
+    ghost can_add_assign = { Fit };
+
+    fn add_assign(&mut self, more: Counts)
+        requires { Fit self.old more }
+        ensures { self.new ≡ added self.old more }
+    {
+        self.n_paths += more.n_paths;
+        self.n_path_segments += more.n_path_segments;
+        self.n_clips += more.n_clips;
+        self.n_open_clips += more.n_open_clips;
+    }
 }

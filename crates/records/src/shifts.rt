@@ -7,13 +7,10 @@ use bounded::Mapping;
 use draw::{ColorStop, StopBits};
 use math::Transform;
 
-fn placed(by: Option<Transform>, x: &Transform) -> Transform
-    ensures { result ≡ under by x.now }
+fn placed(by: Option<Transform>, x: Transform) -> Transform
+    ensures { result ≡ under by x }
 {
-    match by {
-        Some(t) => t.product(x),
-        None => *x,
-    }
+    by.map_or(x, |t| t * x)
 }
 
 impl StreamOffsets {
@@ -38,12 +35,8 @@ impl RunAttributes {
         ensures { result ≡ moved_attributes by self.now }
     {
         RunAttributes {
-            font: self.font,
-            style: self.style,
-            font_size: self.font_size,
-            transform: placed(by, &self.transform),
-            glyph_transform: self.glyph_transform,
-            brush_transform: self.brush_transform,
+            transform: placed(by, self.transform),
+            ..*self
         }
     }
 }
@@ -60,7 +53,7 @@ impl Mapping<Transform, Transform> for TransformShift {
     ghost image = { λ s x. under s.by x };
 
     fn map(&self, x: &Transform) -> Transform {
-        placed(self.by, x)
+        placed(self.by, *x)
     }
 }
 
@@ -143,6 +136,6 @@ impl Mapping<ColorStop, StopBits> for StopFade {
     ghost image = { λ s x. stored_stop s.alpha x };
 
     fn map(&self, x: &ColorStop) -> StopBits {
-        x.multiply_alpha(self.alpha).to_bits()
+        StopBits::from(x.multiply_alpha(self.alpha))
     }
 }

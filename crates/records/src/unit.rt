@@ -1,7 +1,7 @@
-ghost use Rattle.std.specs.Prelude.{◌≡◌, true};
-ghost use Rattle.records.specs.Unit.{in_unit, stop_in_unit, image_in_range, sampler_in_range, side_in_range, Sides};
+ghost use Rattle.std.specs.Prelude.{◌≡◌};
+ghost use Rattle.records.specs.Unit.{in_unit, stop_in_unit, side_in_range};
 
-use crate::image::{Image, ImageSampler};
+use crate::finite::numbers;
 use crate::question::Test;
 use draw::ColorStop;
 
@@ -19,33 +19,13 @@ impl Test<ColorStop> for InUnit {
     ghost passes = { stop_in_unit };
 
     fn test(x: &ColorStop) -> bool {
-        is_in_unit(x.offset)
-            && is_in_unit(x.color.r)
-            && is_in_unit(x.color.g)
-            && is_in_unit(x.color.b)
-            && is_in_unit(x.color.a)
+        numbers(x).iter().all(|n| is_in_unit(*n))
     }
 }
 
-fn is_side(n: u32) -> bool
+// Whether a picture's side may be that long.
+pub(crate) fn is_side(n: u32) -> bool
     ensures { result ≡ side_in_range n }
 {
     1 <= n && n <= 65535
-}
-
-impl Image {
-    pub fn is_in_range(&self) -> bool
-        ensures value { result ≡ image_in_range self.now }
-        ensures sides { result ≡ true → Sides self.now }
-    {
-        is_side(self.width) && is_side(self.height) && self.format <= 1 && self.alpha_type <= 1
-    }
-}
-
-impl ImageSampler {
-    pub fn is_in_range(&self) -> bool
-        ensures { result ≡ sampler_in_range self.now }
-    {
-        self.x_extend <= 2 && self.y_extend <= 2 && self.quality <= 2 && is_in_unit(self.alpha)
-    }
 }

@@ -1,16 +1,15 @@
--- A stream half written behind P: what is written, with the cuts that are left, is the whole.
-use Rattle.std.proofs.Common.{◌≡◌, ℕ, ◌+◌, ◌-◌, ◌≤◌, List, [], ◌∷◌, ◌++◌, length, take, drop, sum_by, sym, refl, ap, ◌∙◌, subst, append_assoc, append-nil, arith}
+-- A stream half written from `start` on: what is written, with the cuts that are left, is the whole.
+use Rattle.std.proofs.Common.{◌≡◌, ℕ, ◌+◌, ◌-◌, ◌*◌, ◌≤◌, List, [], ◌∷◌, ◌++◌, length, drop, sum_by, sym, refl, ap, ◌∙◌, subst, append_assoc, mul-add, arith}
 use Rattle.std.specs.List.{flat_map, between}
 use Rattle.std.proofs.lemmas.List.{length-append, length-drop}
 use Rattle.std.proofs.lemmas.List.Edits.{length-between}
 use Rattle.std.proofs.lemmas.List.Sums.{sum_by-cons}
-use Rattle.byte_writers.specs.Filled.{Filled}
+use Rattle.std.proofs.lemmas.Grind.{flat_map-append}
 use Rattle.byte_writers.specs.Put.{Put}
-use Rattle.byte_writers.proofs.Splice.{filled_as, start_at}
-use Rattle.byte_writers.proofs.Joins.{joined_append, length_joined_append, puts}
+use Rattle.byte_writers.proofs.Puts.{none_put, put_as, put_then, length_wide}
 use Rattle.streams.specs.Splice.{Cut, spliced, Cuts}
 
-pub cuts_end : {X : Type 0} (n f : ℕ) (cs : List (Cut X)) → Cuts n f cs → f ≤ n
+cuts_end : {X : Type 0} (n f : ℕ) (cs : List (Cut X)) → Cuts n f cs → f ≤ n
 cuts_end n f [] h = h
 cuts_end n f (c ∷ cs) h = let k = cuts_end n (c.place + c.gone) cs h.1 in omega arith
 
@@ -29,62 +28,59 @@ counted xs from (c ∷ cs) h =
     let t = sum_by-cons (λ c. length c.put) c cs in
     omega arith
 
-pub record Left {X : Type 0} (f : X → List ℕ) (D out P : List ℕ) (xs W : List X) (cs : List (Cut X)) (at from : ℕ) : Type 0 where
+pub record Left {X : Type 0} (f : X → List ℕ) (D out : List ℕ) (start : ℕ) (xs W : List X) (cs : List (Cut X)) (at from : ℕ) : Type 0 where
   pub written : List X
-  pub filled : Filled D out at (P ++ flat_map f written)
+  pub put : Put D start (flat_map f written) at out
   pub whole : written ++ spliced from xs cs ≡ W
   pub cuts : Cuts (length xs) from cs
 
 -- before the first write
-pub begun : {X : Type 0} (f : X → List ℕ) (D : List ℕ) (at : ℕ) (xs : List X) (cs : List (Cut X)) → at ≤ length D → Cuts (length xs) 0 cs
-    → Left f D D (take at D) xs (spliced 0 xs cs) cs at 0
-begun f D at xs cs h k = record { written = []; filled = filled_as (sym (append-nil _)) (start_at D at h); whole = refl; cuts = k }
+pub begun : {X : Type 0} (f : X → List ℕ) (D : List ℕ) (at : ℕ) (xs : List X) (cs : List (Cut X)) → Cuts (length xs) 0 cs → Left f D D at xs (spliced 0 xs cs) cs at 0
+begun f D at xs cs h = record { written = []; put = none_put D at; whole = refl; cuts = h }
 
-module _ {X : Type 0} (f : X → List ℕ) {D out P : List ℕ} (xs W : List X) {at from : ℕ} where
-  module _ (c : Cut X) (cs : List (Cut X)) (g : Left f D out P xs W (c ∷ cs) at from) where
+module _ {X : Type 0} {f : X → List ℕ} {D out : List ℕ} {start : ℕ} {xs W : List X} {at from : ℕ} where
+  pub left_as : {cs : List (Cut X)} {out' : List ℕ} {n m : ℕ} → out' ≡ out → n ≡ at → m ≡ from → Left f D out start xs W cs at from → Left f D out' start xs W cs n m
+  left_as {cs = cs} {out' = out'} {m = m} o e q g =
+      subst (λ n. Left f D out' start xs W cs n m) (sym e) (subst (λ m. Left f D out' start xs W cs at m) (sym q) (subst (λ v. Left f D v start xs W cs at from) (sym o) g))
+
+  module _ {c : Cut X} {cs : List (Cut X)} (g : Left f D out start xs W (c ∷ cs) at from) where
     pub rises : (from ≤ c.place) × (c.place + c.gone ≤ length xs)
     rises = (g.cuts.0, cuts_end (length xs) (c.place + c.gone) cs g.cuts.1)
 
     whole_on : (g.written ++ (between from c.place xs ++ c.put)) ++ spliced (c.place + c.gone) xs cs ≡ W
     whole_on = simp append_assoc g.whole
 
-    pub room : at + length (flat_map f (between from c.place xs)) + length (flat_map f c.put) ≤ length P + length (flat_map f W)
-    room =
-        let w = ap (λ v. length (flat_map f v)) whole_on in
-        let a = length_joined_append f (g.written ++ (between from c.place xs ++ c.put)) (spliced (c.place + c.gone) xs cs) in
-        let b = length_joined_append f g.written (between from c.place xs ++ c.put) in
-        let e = length_joined_append f (between from c.place xs) c.put in
-        let p = length-append P (flat_map f g.written) in
-        let l = g.filled.long in
-        omega arith
+    -- entries of w bytes
+    pub room : (w : ℕ) → ((x : X) → length (f x) ≡ w) → at + w * length (between from c.place xs) + w * length c.put ≤ start + w * length W
+    room w e =
+        let t = g.written ++ (between from c.place xs ++ c.put) in
+        let a = ap (λ n. w * n) (ap length (sym whole_on) ∙ length-append t (spliced (c.place + c.gone) xs cs)) in
+        let b = ap (λ n. w * n) (length-append g.written (between from c.place xs ++ c.put)) in
+        let d = ap (λ n. w * n) (length-append (between from c.place xs) c.put) in
+        omega (
+          arith,
+          g.put.size,
+          length_wide f w e g.written,
+          mul-add w (length t) (length (spliced (c.place + c.gone) xs cs)),
+          mul-add w (length g.written) (length (between from c.place xs ++ c.put)),
+          mul-add w (length (between from c.place xs)) (length c.put),
+        )
 
-    pub advance : {mid out' : List ℕ} {m n : ℕ} → Put out at (flat_map f (between from c.place xs)) m mid → Put mid m (flat_map f c.put) n out'
-        → Left f D out' P xs W cs n (c.place + c.gone)
-    advance u v =
-        let J = flat_map f in
+    pub advance : {mid out' : List ℕ} {m n : ℕ} → start ≤ length D → Put out at (flat_map f (between from c.place xs)) m mid → Put mid m (flat_map f c.put) n out'
+        → Left f D out' start xs W cs n (c.place + c.gone)
+    advance l u v =
         let part = between from c.place xs in
-        let q : ((P ++ J g.written) ++ J part) ++ J c.put ≡ P ++ J (g.written ++ (part ++ c.put))
-        = simp append_assoc (ap (λ v. P ++ v) (ap (λ v. J g.written ++ v) (sym (joined_append f part c.put)) ∙ sym (joined_append f g.written (part ++ c.put)))) in
-        record { written = g.written ++ (part ++ c.put); filled = filled_as q (puts (puts g.filled u) v); whole = whole_on; cuts = g.cuts.1 }
+        let q : (flat_map f g.written ++ flat_map f part) ++ flat_map f c.put ≡ flat_map f (g.written ++ (part ++ c.put))
+        = append_assoc (flat_map f g.written) (flat_map f part) (flat_map f c.put)
+        ∙ ap (λ v. flat_map f g.written ++ v) (sym (flat_map-append f part c.put)) ∙ sym (flat_map-append f g.written (part ++ c.put)) in
+        record { written = g.written ++ (part ++ c.put); put = put_as q (put_then l (put_then l g.put u) v); whole = whole_on; cuts = g.cuts.1 }
 
-  module _ (g : Left f D out P xs W [] at from) where
-    pub rest : at + length (flat_map f (drop from xs)) ≡ length P + length (flat_map f W)
-    rest =
-        let w = ap (λ v. length (flat_map f v)) g.whole in
-        let a = length_joined_append f g.written (drop from xs) in
-        let p = length-append P (flat_map f g.written) in
-        let l = g.filled.long in
-        omega arith
+  module _ (g : Left f D out start xs W [] at from) where
+    pub rest : (part : List X) → part ≡ drop from xs → (w : ℕ) → ((x : X) → length (f x) ≡ w) → at + w * length part ≡ start + w * length W
+    rest part p w e =
+        let a = ap (λ n. w * n) (ap length (sym g.whole) ∙ length-append g.written (drop from xs)) in
+        let b = ap (λ q. w * length q) p in
+        omega (arith, g.put.size, length_wide f w e g.written, mul-add w (length g.written) (length (drop from xs)))
 
-    pub ended : {out' : List ℕ} {n : ℕ} (part : List X) → part ≡ drop from xs → Put out at (flat_map f part) n out' → Filled D out' n (P ++ flat_map f W)
-    ended part p u =
-        let J = flat_map f in
-        let q : (P ++ J g.written) ++ J part ≡ P ++ J W
-        = append_assoc P (J g.written) (J part)
-        ∙ ap (λ v. P ++ v) (ap (λ q. J g.written ++ J q) p ∙ sym (joined_append f g.written (drop from xs)) ∙ ap J g.whole) in
-        filled_as q (puts g.filled u)
-
-pub left_as : {X : Type 0} {f : X → List ℕ} {D out out' P : List ℕ} {xs W : List X} {cs : List (Cut X)} {at at' from from' : ℕ} → out ≡ out' → at ≡ at' → from ≡ from'
-    → Left f D out' P xs W cs at' from' → Left f D out P xs W cs at from
-left_as {f = f} {D = D} {out = out} {P = P} {xs = xs} {W = W} {cs = cs} {at = at} {at' = at'} {from' = from'} o a e g =
-    subst (λ v. Left f D out P xs W cs at v) (sym e) (subst (λ v. Left f D out P xs W cs v from') (sym a) (subst (λ v. Left f D v P xs W cs at' from') (sym o) g))
+    pub ended : {out' : List ℕ} {n : ℕ} (part : List X) → part ≡ drop from xs → start ≤ length D → Put out at (flat_map f part) n out' → Put D start (flat_map f W) n out'
+    ended part p l u = put_as (ap (λ q. flat_map f g.written ++ flat_map f q) p ∙ sym (flat_map-append f g.written (drop from xs)) ∙ ap (flat_map f) g.whole) (put_then l g.put u)

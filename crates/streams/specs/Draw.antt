@@ -3,17 +3,10 @@ use Rattle.std.specs.Prelude.{ℕ, ◌+◌, ◌≤◌, List, [], ◌∷◌, leng
 use Rattle.records.specs.declared.patch.Patch.{Patch}
 use Rattle.records.specs.declared.patch.Patch.TheVariants.{Ramp, GlyphRun as Run, Image}
 use Rattle.streams.specs.Splice.{Cut, spliced}
-use Rattle.streams.specs.declared.late.Bound.{Bound}
-use Rattle.streams.specs.declared.late.Bound.TheVariants.{Kept, One, Two}
 
 -- the words that patch k binds late, in place of as many of its own
 abbrev pub Late : Type 0
 Late = ℕ → List ℕ
-
-abbrev pub bound_words : Bound → List ℕ
-bound_words Kept = []
-bound_words (One a) = a ∷ []
-bound_words (Two a b) = a ∷ b ∷ []
 
 -- where a patch's own words begin
 abbrev pub owned_from : Patch → Option ℕ

@@ -2,12 +2,18 @@ ghost use Rattle.std.specs.Prelude.{◌≡◌, ◌+◌, ◌*◌, ◌≤◌, leng
 ghost use Rattle.byte_writers.specs.Bytes.{words_bytes};
 ghost use Rattle.byte_writers.specs.Put.{Put};
 ghost use Rattle.streams.specs.Splice.{Cuts};
-ghost use Rattle.streams.specs.Draw.{bound_words, owned_from, draw_data_cuts, bound_draw_data};
+ghost use Rattle.streams.specs.Draw.{Late, owned_from, draw_data_cuts, bound_draw_data};
 
-use crate::late::Bound;
-use crate::late_words::LateWords;
-use byte_writers::put_words_at;
+use byte_writers::put_all;
 use records::Patch;
+
+// The words that the patches of a page bind late, by the number of the patch; for one that binds none, no words.
+pub trait LateWords {
+    ghost late: { Self → Late };
+
+    fn words(&self, patch: usize) -> &[u32]
+        ensures { result.now ≡ late self.now patch };
+}
 
 // Where the words that a patch owns begin.
 fn owned_from(patch: &Patch) -> Option<usize>
@@ -17,33 +23,12 @@ fn owned_from(patch: &Patch) -> Option<usize>
         Patch::Ramp {
             draw_data_offset,
             ..
-        } => Some(draw_data_offset),
-        Patch::GlyphRun { .. } => None,
-        Patch::Image {
+        }
+        | Patch::Image {
             draw_data_offset,
             ..
         } => Some(draw_data_offset),
-    }
-}
-
-fn bound_count(bound: Bound) -> usize
-    ensures { result ≡ length (bound_words bound) }
-{
-    match bound {
-        Bound::Kept => 0,
-        Bound::One(_) => 1,
-        Bound::Two(_, _) => 2,
-    }
-}
-
-fn put_bound(out: &mut [u8], at: usize, bound: Bound) -> usize
-    requires { at + 4 * length (bound_words bound) ≤ length out.old }
-    ensures { Put out.old at (words_bytes (bound_words bound)) result out.new }
-{
-    match bound {
-        Bound::Kept => at,
-        Bound::One(a) => put_words_at(out, at, &[a]),
-        Bound::Two(a, b) => put_words_at(out, at, &[a, b]),
+        Patch::GlyphRun { .. } => None,
     }
 }
 
@@ -61,13 +46,13 @@ pub fn put_draw_data<L: LateWords>(
 {
     let mut next = at;
     let mut from = 0;
-    for k in 0..patches.len() {
-        if let Some(place) = owned_from(&patches[k]) {
+    for (k, patch) in patches.iter().enumerate() {
+        if let Some(place) = owned_from(patch) {
             let bound = late.words(k);
-            next = put_words_at(out, next, &words[from..place]);
-            next = put_bound(out, next, bound);
-            from = place + bound_count(bound);
+            next = put_all(out, next, &words[from..place]);
+            next = put_all(out, next, bound);
+            from = place + bound.len();
         }
     }
-    put_words_at(out, next, &words[from..])
+    put_all(out, next, &words[from..])
 }

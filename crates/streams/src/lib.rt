@@ -3,25 +3,17 @@
 
 mod count;
 mod draw_data;
+mod glyph_runs;
 mod glyphs;
 mod inserted;
-mod late;
-mod late_words;
-mod loops;
-mod path_data;
-mod path_tags;
-mod stream;
-mod styles;
-mod transforms;
+mod kinds;
+mod run_stream;
+mod runs;
 
 pub use count::count_inserted;
-pub use draw_data::put_draw_data;
+pub use draw_data::{LateWords, put_draw_data};
+pub use glyph_runs::GlyphRuns;
 pub use inserted::Inserted;
-pub use late::Bound;
-pub use late_words::LateWords;
-pub use loops::put_stream;
-pub use path_data::PathData;
-pub use path_tags::PathTags;
-pub use stream::RunStream;
-pub use styles::Styles;
-pub use transforms::Transforms;
+pub use kinds::{PathData, PathTags, Styles, Transforms};
+pub use run_stream::RunStream;
+pub use runs::put_stream;

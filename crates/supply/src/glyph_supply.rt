@@ -4,15 +4,16 @@ ghost use Rattle.supply.specs.Meaning.{Meaning, Short, shown};
 ghost use Rattle.supply.specs.Shown.{shape_of};
 
 use crate::outline::Outline;
+use crate::session_key::SessionKey;
 
 // Sessions and outlines by font, style and size. A question changes nothing.
 pub trait GlyphSupply {
     ghost meaning: { Self → Meaning };
 
-    fn session(&self, font: u32, style: u32, size: f32) -> bool
-        ensures { result ≡ (meaning self.now).session font style size };
+    fn session(&self, key: SessionKey) -> bool
+        ensures { result ≡ (meaning self.now).session key.font key.style key.size };
 
-    fn outline<'a>(&'a self, font: u32, style: u32, size: f32, id: u32) -> Option<Outline<'a>>
-        ensures value { option_map shape_of result ≡ (meaning self.now).outline font style size id }
+    fn outline(&self, key: SessionKey, id: u32) -> Option<Outline<'_>>
+        ensures value { option_map shape_of result ≡ (meaning self.now).outline key.font key.style key.size id }
         ensures short { Short (shown (option_map shape_of result)) };
 }

@@ -3,6 +3,8 @@
 
 mod glyph_supply;
 mod outline;
+mod session_key;
 
 pub use glyph_supply::GlyphSupply;
 pub use outline::Outline;
+pub use session_key::SessionKey;

@@ -12,11 +12,6 @@ loop-stop-preserved c =
     sym (shared_on c.args.u c.loop-stop.effective c.effective_offset-effective.result c.loop-stop.last c.args.following.now c.loop-stop.stop-index _ c.loop-stop-test.true c.effective_offset-effective.ensures (not-false _ c.if-effective-u.false))
     ∙ c.loop-stop.invariant
 
-pub returns-after-loop-stop : goal.returns-after-loop-stop
-returns-after-loop-stop c =
-    sym (at_drop_all (λ l. last_shared c.args.u c.loop-stop.effective l c.loop-stop.last) c.args.following.now c.loop-stop.stop-index c.loop-stop-test.false)
-    ∙ c.loop-stop.invariant
-
 pub returns-then-effective-u : goal.returns-then-effective-u
 unfolding ne
 returns-then-effective-u c =

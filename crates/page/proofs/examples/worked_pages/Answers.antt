@@ -1,19 +1,7 @@
-use Rattle.std.proofs.Common.{refl, ap, ◌∙◌, arith}
+use Rattle.std.proofs.Common.{refl}
 use lib.Ieee.{to_bits}
-use Rattle.page.specs.Page.{padded}
-use Rattle.page.proofs.Lengths.{with_padding_long}
 use Rattle.page.proofs.examples.worked_pages.Goals as goal
 
-pub returns : goal.returns
+pub returns-clause-nan : goal.returns-clause-nan
 unfolding to_bits
-returns c = record {
-  padding = (
-    (λ ts h. with_padding_long ts ∙ ap padded h),
-    (λ ts h. with_padding_long ts ∙ ap padded h),
-    (λ ts h. with_padding_long ts ∙ ap padded h),
-    (λ ts h. with_padding_long ts ∙ ap padded h),
-  );
-  clip = λ p k. (refl, omega arith, omega arith, refl);
-  glyphs = (refl, refl, refl, refl, refl);
-  nan = refl;
-}
+returns-clause-nan c = refl

@@ -1,4 +1,4 @@
-use Rattle.std.proofs.Common.{◌≡◌, ℕ, ◌+◌, ◌*◌, List, [], ◌∷◌, ◌++◌, length, take, drop, Some, None, Ok, Option, sym, refl, ap, ◌∙◌, subst, arith}
+use Rattle.std.proofs.Common.{◌≡◌, ℕ, ◌+◌, List, [], ◌∷◌, ◌++◌, length, take, drop, Some, None, Ok, Option, sym, refl, ap, ◌∙◌, subst, arith}
 use Rattle.std.proofs.lemmas.List.{take_at}
 use Rattle.records.specs.declared.patch.Patch.{Patch}
 use Rattle.records.specs.declared.patch.Patch.TheVariants.{Ramp, GlyphRun as Run, Image}
@@ -12,8 +12,8 @@ use Rattle.page.specs.Plain.{plain_page, plain_refusal}
 use Rattle.page.specs.declared.layout.Layout.{Layout}
 use Rattle.page.specs.Nothing.{no_supply, no_late}
 use Rattle.page.specs.Laws.{ReadsBack}
-use Rattle.page.proofs.Lengths.{tags_long, data_long, draw_tags_long, draw_data_long, transforms_long, page_long}
-use Rattle.page.proofs.Parts.{lies_accepted, rejoined, six_rising, first_part, second_part, third_part, fourth_part, fifth_part, sixth_part}
+use Rattle.page.proofs.Lengths.{long, page_long}
+use Rattle.page.proofs.Parts.{lies_accepted, rejoined, six_parts}
 use Rattle.page.proofs.laws.pages_read_back.Goals as goal
 
 module _ (m : Meaning) (late : Late) (s : Scene) (h : Sound s) (w : Owned late 0 s.patches) where
@@ -26,26 +26,17 @@ module _ (m : Meaning) (late : Late) (s : Scene) (h : Sound s) (w : Owned late 0
       let d = draw_data_stream late s in
       let e = transform_stream m s in
       let f = style_stream m s in
-      let la = tags_long m s h in
-      let lb = data_long m s h in
-      let lc = draw_tags_long m s h in
-      let ld = draw_data_long m s h late w in
-      let le = transforms_long m s h in
-      let za : 4 * l.path_data_base ≡ length a = omega arith in
-      let zb : 4 * l.draw_tag_base ≡ length a + length b = omega arith in
-      let zc : 4 * l.draw_data_base ≡ length a + length b + length c = omega arith in
-      let zd : 4 * l.transform_base ≡ length a + length b + length c + length d = omega arith in
-      let ze : 4 * l.style_base ≡ length a + length b + length c + length d + length e = omega arith in
-      let r = six_rising a b c d e f l refl za zb zc zd ze in
+      let z = long m s h late w in
+      let r = six_parts a b c d e f l refl (omega arith) (omega arith) (omega arith) (omega arith) (omega arith) in
       record {
-        accepted = lies_accepted _ l r;
-        path_tags = first_part a b c d e f l refl za zb zc zd ze;
-        path_data = second_part a b c d e f l refl za zb zc zd ze;
-        draw_tags = third_part a b c d e f l refl za zb zc zd ze;
-        draw_data = fourth_part a b c d e f l refl za zb zc zd ze;
-        transforms = fifth_part a b c d e f l refl za zb zc zd ze;
-        styles = sixth_part a b c d e f l refl za zb zc zd ze;
-        whole = rejoined _ l r refl;
+        accepted = lies_accepted _ l r.rising;
+        path_tags = r.path_tags;
+        path_data = r.path_data;
+        draw_tags = r.draw_tags;
+        draw_data = r.draw_data;
+        transforms = r.transforms;
+        styles = r.styles;
+        whole = rejoined _ l r.rising refl;
       }
 
 -- an answer with a layout has the page in the buffer

@@ -1,74 +1,52 @@
-use Rattle.std.proofs.Common.{◌≡◌, ℕ, ◌+◌, ◌-◌, ◌++◌, length, replicate, ap, arith}
-use Rattle.std.proofs.lemmas.List.{length-replicate}
-use Rattle.byte_writers.proofs.Joins.{joined_bytes, put_then, put_as}
-use Rattle.streams.specs.Kind.{stream_of, stream_count}
+use Rattle.std.proofs.Common.{◌≡◌, ℕ, ◌+◌, ◌-◌, List, ◌++◌, length, replicate, ap, ◌∙◌, arith}
+use Rattle.std.specs.List.{flat_map}
+use Rattle.std.proofs.lemmas.List.{length-append, length-replicate}
+use Rattle.byte_writers.specs.Bytes.{byte}
+use Rattle.byte_writers.proofs.Puts.{flat_map_byte, put_then, put_as}
+use Rattle.streams.specs.Kind.{stream_of}
 use Rattle.streams.specs.Kinds.{tags_kind}
-use Rattle.streams.proofs.Counted.{stream_size}
 use Rattle.page.specs.Page.{padded, closed_tags}
 use Rattle.page.specs.Viewed.{viewed}
-use Rattle.page.proofs.Kept.{tags_kept, inside_kept}
-use Rattle.page.proofs.Lengths.{le_padded, closed_long}
+use Rattle.page.proofs.Kept.{tags_kept}
+use Rattle.page.proofs.Lengths.{le_padded, tag_count}
 use Rattle.page.proofs.writers.put_path_tags.Goals as goal
 
-pub put_stream-end-requires : goal.put_stream-end-requires
-put_stream-end-requires g c =
-    let m = g.G.GlyphSupply.meaning c.args.supply.now in
-    let s = viewed c.args.scene in
-    let h = c.requires.sound in
-    let p = le_padded (stream_count (tags_kind m) (length s.path_tags) s.glyphs s.runs + s.open_clips) in
-    record { cuts = tags_kept s h m; inside = inside_kept s h; space = omega (arith, c.requires.space) }
+pub put_stream-end-requires-clause-cuts : goal.put_stream-end-requires-clause-cuts
+put_stream-end-requires-clause-cuts g c = tags_kept (viewed c.args.scene) c.args.scene.sound (g.G.GlyphSupply.meaning c.args.supply.now)
 
-pub put_fill_at-closed-requires : goal.put_fill_at-closed-requires
-put_fill_at-closed-requires g c =
+pub put_repeated-closed-requires : goal.put_repeated-closed-requires
+put_repeated-closed-requires g c =
     let m = g.G.GlyphSupply.meaning c.args.supply.now in
     let s = viewed c.args.scene in
-    let p = le_padded (stream_count (tags_kind m) (length s.path_tags) s.glyphs s.runs + s.open_clips) in
-    let n = stream_size (tags_kind m) s.path_tags s.glyphs s.runs (tags_kept s c.requires.sound m) in
-    omega (arith, c.requires.space, c.put_stream-end.ensures.size)
+    let xs = stream_of tags_kind m s.path_tags s.glyphs s.runs in
+    omega (arith, c.requires, c.put_stream-end.ensures.size, ap length (flat_map_byte xs), tag_count m s c.args.scene.sound, le_padded (length xs + s.open_clips))
 
-pub overflow_add-padded : goal.overflow_add-padded
-overflow_add-padded g c =
+pub put_repeated-requires : goal.put_repeated-requires
+put_repeated-requires g c =
     let m = g.G.GlyphSupply.meaning c.args.supply.now in
     let s = viewed c.args.scene in
-    let n = stream_size (tags_kind m) s.path_tags s.glyphs s.runs (tags_kept s c.requires.sound m) in
-    let r = length-replicate {A = ℕ} s.open_clips 0x10 in
-    let e = c.put_stream-end.ensures.size in
-    let f = c.put_fill_at-closed.ensures.size in
-    omega (arith, c.requires.space)
-
-pub overflow_mul-padded : goal.overflow_mul-padded
-overflow_mul-padded g c =
-    let m = g.G.GlyphSupply.meaning c.args.supply.now in
-    let s = viewed c.args.scene in
-    let n = stream_size (tags_kind m) s.path_tags s.glyphs s.runs (tags_kept s c.requires.sound m) in
-    let r = length-replicate {A = ℕ} s.open_clips 0x10 in
-    let e = c.put_stream-end.ensures.size in
-    let f = c.put_fill_at-closed.ensures.size in
-    omega (arith, c.requires.space)
-
-pub put_fill_at-requires : goal.put_fill_at-requires
-put_fill_at-requires g c =
-    let m = g.G.GlyphSupply.meaning c.args.supply.now in
-    let s = viewed c.args.scene in
-    let n = stream_size (tags_kind m) s.path_tags s.glyphs s.runs (tags_kept s c.requires.sound m) in
-    let r = length-replicate {A = ℕ} s.open_clips 0x10 in
-    let e = c.put_stream-end.ensures.size in
-    let f = c.put_fill_at-closed.ensures.size in
-    omega (arith, c.requires.space)
+    let xs = stream_of tags_kind m s.path_tags s.glyphs s.runs in
+    omega (
+      arith,
+      c.requires,
+      c.put_stream-end.ensures.size,
+      ap length (flat_map_byte xs),
+      tag_count m s c.args.scene.sound,
+      ap length (flat_map_byte (replicate s.open_clips 0x10)),
+      length-replicate {A = ℕ} s.open_clips 0x10,
+    )
 
 pub returns : goal.returns
 returns g c =
     let m = g.G.GlyphSupply.meaning c.args.supply.now in
     let s = viewed c.args.scene in
-    let n = stream_size (tags_kind m) s.path_tags s.glyphs s.runs (tags_kept s c.requires.sound m) in
-    let r = length-replicate {A = ℕ} s.open_clips 0x10 in
-    let e = c.put_stream-end.ensures.size in
-    let f = c.put_fill_at-closed.ensures.size in
-    let l = closed_long m s c.requires.sound in
-    let q : c.put_fill_at-closed.result ≡ length (closed_tags m s) = omega arith in
+    let xs = stream_of tags_kind m s.path_tags s.glyphs s.runs in
+    let ys : List ℕ = replicate s.open_clips 0x10 in
+    let zs : List ℕ = replicate (c.next_multiple_of.result - c.put_repeated-closed.result) 0 in
+    let l = length (closed_tags m s) in
+    let q : c.next_multiple_of.result - c.put_repeated-closed.result ≡ padded l - l
+    = omega (arith, c.put_stream-end.ensures.size, ap length (flat_map_byte xs), ap length (flat_map_byte ys), length-append xs ys) in
     put_as
-    (ap (λ k. closed_tags m s ++ replicate (padded k - k) 0) q)
-    (put_then (omega arith)
-    (put_as (ap (λ v. v ++ replicate s.open_clips 0x10) (joined_bytes (stream_of (tags_kind m) s.path_tags s.glyphs s.runs)))
-    (put_then (omega arith) c.put_stream-end.ensures c.put_fill_at-closed.ensures))
-    c.put_fill_at.ensures)
+    (ap (λ v. v ++ flat_map byte ys ++ flat_map byte zs) (flat_map_byte xs) ∙ ap (λ v. xs ++ v ++ flat_map byte zs) (flat_map_byte ys) ∙ ap (λ v. xs ++ ys ++ v) (flat_map_byte zs)
+    ∙ ap (λ k. closed_tags m s ++ replicate k 0) q)
+    (put_then (omega arith) (put_then (omega arith) c.put_stream-end.ensures c.put_repeated-closed.ensures) c.put_repeated.ensures)

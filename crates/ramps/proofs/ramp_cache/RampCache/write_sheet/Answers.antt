@@ -2,8 +2,7 @@ use Rattle.std.proofs.Common.{◌≡◌, ℕ, ◌-◌, ◌*◌, List, ◌++◌, 
 use Rattle.std.specs.List.{flat_map}
 use Rattle.ramps.specs.Cache.{rows_in}
 use Rattle.ramps.specs.Sheet.{row_words}
-use Rattle.ramps.proofs.Parted.{written_rest}
-use Rattle.ramps.proofs.Sheets.{length_joined}
+use Rattle.ramps.proofs.Sheets.{length_joined, written_rest}
 use Rattle.ramps.proofs.ramp_cache.RampCache.write_sheet.Goals as goal
 
 as_many : {xs : List ℕ} (m n : ℕ) → xs ≡ replicate m 0 → m ≡ n → xs ≡ replicate n 0

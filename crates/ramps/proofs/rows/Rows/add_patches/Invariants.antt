@@ -1,6 +1,6 @@
 use Rattle.std.proofs.Common.{◌≡◌, drop}
 use Rattle.ramps.specs.Rows.{added_from}
-use Rattle.ramps.specs.View.{rows_of}
+use Rattle.ramps.specs.Held.{rows_of}
 use Rattle.ramps.proofs.rows.Rows.add_patches.Given as goal
 
 -- what is left, from the rows so far, gives the whole

@@ -1,9 +1,18 @@
-use Rattle.std.proofs.Common.{arith, length-take}
-use Rattle.ramps.proofs.Stored.{stored_fewer, stored_same}
+use Rattle.std.proofs.Common.{◌≡◌, map, sym, ap, ◌∙◌, subst}
+use Rattle.std.proofs.lemmas.List.{take-map}
+use Rattle.ramps.specs.FixedVec.{items_of}
+use Rattle.ramps.specs.Laws.{Distinct}
+use Rattle.ramps.specs.Rows.{maintained}
+use Rattle.ramps.specs.View.{row_of}
+use Rattle.ramps.specs.Held.{rows_of}
+use Rattle.ramps.proofs.Paging.{maintained_distinct}
 use Rattle.ramps.proofs.rows.Rows.maintain.Goals as goal
 
-pub returns-then-self-gt-RETAINED_COUNT : goal.returns-then-self-gt-RETAINED_COUNT
-returns-then-self-gt-RETAINED_COUNT c = stored_fewer c.args.self.now.len c.args.self.now.items (omega arith)
+pub invariant_of-self : goal.invariant_of-self
+invariant_of-self c =
+    let t = c.args.self.now in
+    let e : maintained (rows_of t) ≡ map row_of (items_of c.truncate.new.self) = take-map row_of 64 (items_of t.rows) ∙ sym (ap (map row_of) c.truncate.ensures) in
+    record { distinct = subst Distinct e (maintained_distinct (rows_of t) t.distinct) }
 
-pub returns-else-self-gt-RETAINED_COUNT : goal.returns-else-self-gt-RETAINED_COUNT
-returns-else-self-gt-RETAINED_COUNT c = stored_same c.args.self.now.len c.args.self.now.items (simp length-take (omega arith))
+pub returns : goal.returns
+returns c = ap (map row_of) c.truncate.ensures ∙ sym (take-map row_of 64 (items_of c.args.self.now.rows))

@@ -1,32 +1,15 @@
-use Rattle.std.proofs.Common.{sym, ap, ◌∙◌, arith}
-use Rattle.ramps.specs.Keys.{same_key}
-use Rattle.ramps.specs.Rows.{has_key, lowest_from}
-use Rattle.ramps.proofs.Lowest.{lowest_more, lowest_all}
+use Rattle.std.proofs.Common.{rules, tests, sym, ap, ◌∙◌}
+use Rattle.std.specs.List.{position}
+use Rattle.std.proofs.lemmas.Iterator.{YieldsList-from_slice}
+use Rattle.std.proofs.lemmas.Iterator.Search.{position_from_yields_List}
+use Rattle.ramps.specs.Rows.{has_key}
+use Rattle.ramps.specs.View.{row_of}
+use Rattle.ramps.proofs.Mapped.{position-map}
 use Rattle.ramps.proofs.rows.Rows.row.Goals as goal
 
-pub loop-i-init : goal.loop-i-init
-loop-i-init c = ap (lowest_from (has_key c.args.key.now) 0) (sym c.as_slice-row-items.ensures.items)
-
-pub returns-then-same_key : goal.returns-then-same_key
-returns-then-same_key c =
+pub returns-clause-value : goal.returns-clause-value
+returns-clause-value c =
     let k = c.args.key.now in
-    let e = c.if-same_key.ensures ∙ ap (λ s. same_key s k) c.stops.ensures.value in
-    record {
-      value = sym (c.loop-i.invariant ∙ lowest_more (has_key k) c.as_slice-row-items.result.now c.loop-i.i c.row-item.result _ c.loop-i-test.true c.row-item.is e);
-      within = omega arith;
-      few = omega arith;
-    }
-
-pub loop-i-preserved : goal.loop-i-preserved
-loop-i-preserved c =
-    let k = c.args.key.now in
-    let e = c.if-same_key.ensures ∙ ap (λ s. same_key s k) c.stops.ensures.value in
-    c.loop-i.invariant ∙ lowest_more (has_key k) c.as_slice-row-items.result.now c.loop-i.i c.row-item.result _ c.loop-i-test.true c.row-item.is e
-
-pub returns : goal.returns
-returns c =
-    record {
-      value = sym (c.loop-i.invariant ∙ lowest_all (has_key c.args.key.now) c.as_slice-row-items.result.now c.loop-i.i c.loop-i-test.false);
-      within = tt;
-      few = tt;
-    }
+    let rows = c.as_slice.result.now in
+    position_from_yields_List (λ r. has_key k (row_of r)) _ _ c.position.result c.position.ensures.ran (YieldsList-from_slice rows cc) (λ x b q d. search (rules, tests))
+    ∙ sym (position-map row_of (has_key k) rows) ∙ ap (position (has_key k)) c.as_slice.ensures.items

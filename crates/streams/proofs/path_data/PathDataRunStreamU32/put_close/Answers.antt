@@ -1,5 +1,0 @@
-use Rattle.byte_writers.proofs.Joins.{none_put}
-use Rattle.streams.proofs.path_data.PathDataRunStreamU32.put_close.Goals as goal
-
-pub returns : goal.returns
-returns g c = none_put c.args._out.now c.args.at

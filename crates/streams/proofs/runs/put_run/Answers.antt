@@ -1,0 +1,73 @@
+use Rattle.std.proofs.Common.{◌+◌, ◌*◌, ◌++◌, length, get_or, take, sym, ap, ◌∙◌, arith}
+use Rattle.std.specs.List.{flat_map}
+use Rattle.std.proofs.lemmas.List.{length-append, take_all}
+use Rattle.std.proofs.lemmas.Grind.{flat_map-append}
+use lib.Ieee.{nan}
+use Rattle.records.specs.declared.glyph.Glyph.{Glyph}
+use Rattle.byte_writers.proofs.Puts.{length_wide, wide_le, room, flat_map_step, put_as, put_then}
+use Rattle.streams.proofs.Counted.{put_by}
+use Rattle.streams.proofs.runs.put_run.Goals as goal
+
+-- what is read past a list's end
+abbrev no_glyph : Glyph
+no_glyph = record { id = 0; x = nan; y = nan }
+
+pub put_glyph-next-requires : goal.put_glyph-next-requires
+put_glyph-next-requires g c =
+    let K = g.S.RunStream.kind in
+    let m = g.G.GlyphSupply.meaning c.args.supply.now in
+    let r = c.args.run.now in
+    let w = g.S.Item.Entry.wide in
+    let put = flat_map (K.each m r) in
+    let gs = c.args.glyphs.now in
+    let n = ap length (put_by K m gs r c.if-not-has_session.ensures) ∙ length-append (put gs) (K.close r) in
+    omega (
+      arith,
+      c.requires,
+      c.loop-glyph.invariant.size,
+      length_wide g.S.Item.Entry.bytes w g.met.S.Item.Entry.wides (put (take c.loop-glyph.glyph-index gs)),
+      room (K.each m r) w gs c.loop-glyph.glyph-index no_glyph c.loop-glyph-test.true,
+      wide_le w (length (put gs)) (length (K.close r)) (length (put gs) + length (K.close r)) (omega arith),
+      ap (λ k. w * k) n,
+    )
+
+pub loop-glyph-preserved : goal.loop-glyph-preserved
+loop-glyph-preserved g c =
+    let each = g.S.RunStream.kind.each (g.G.GlyphSupply.meaning c.args.supply.now) c.args.run.now in
+    let f = g.S.Item.Entry.bytes in
+    let gs = c.args.glyphs.now in
+    let i = c.loop-glyph.glyph-index in
+    put_as (sym (flat_map-append f (flat_map each (take i gs)) (each (get_or gs i no_glyph))) ∙ ap (flat_map f) (sym (flat_map_step each gs i no_glyph c.loop-glyph-test.true)))
+    (put_then (omega (arith, c.requires)) c.loop-glyph.invariant c.put_glyph-next.ensures)
+
+pub put_close-requires : goal.put_close-requires
+put_close-requires g c =
+    let K = g.S.RunStream.kind in
+    let m = g.G.GlyphSupply.meaning c.args.supply.now in
+    let r = c.args.run.now in
+    let w = g.S.Item.Entry.wide in
+    let put = flat_map (K.each m r) in
+    let gs = c.args.glyphs.now in
+    let n = ap length (put_by K m gs r c.if-not-has_session.ensures) ∙ length-append (put gs) (K.close r) in
+    let t = ap (λ xs. w * length (put xs)) (take_all c.loop-glyph.glyph-index gs c.loop-glyph-test.false) in
+    omega (
+      arith,
+      c.requires,
+      c.loop-glyph.invariant.size,
+      length_wide g.S.Item.Entry.bytes w g.met.S.Item.Entry.wides (put (take c.loop-glyph.glyph-index gs)),
+      wide_le w (length (put gs)) (length (K.close r)) (length (put gs) + length (K.close r)) (omega arith),
+      ap (λ k. w * k) n,
+    )
+
+pub returns : goal.returns
+returns g c =
+    let K = g.S.RunStream.kind in
+    let m = g.G.GlyphSupply.meaning c.args.supply.now in
+    let r = c.args.run.now in
+    let f = g.S.Item.Entry.bytes in
+    let put = flat_map (K.each m r) in
+    let gs = c.args.glyphs.now in
+    let w = put_by K m gs r c.if-not-has_session.ensures in
+    let t = ap put (take_all c.loop-glyph.glyph-index gs c.loop-glyph-test.false) in
+    put_as (ap (λ v. flat_map f v ++ flat_map f (K.close r)) t ∙ sym (flat_map-append f (put gs) (K.close r)) ∙ ap (flat_map f) (sym w))
+    (put_then (omega (arith, c.requires)) c.loop-glyph.invariant c.put_close.ensures)
