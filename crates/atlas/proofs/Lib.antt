@@ -1,2 +1,3 @@
 pub mod Shuffles
 pub mod Kept
+pub mod Seeks

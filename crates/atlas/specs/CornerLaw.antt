@@ -13,39 +13,42 @@ use Rattle.atlas.specs.CornerView.{cornered}
 use Rattle.atlas.specs.RectFacts.{missed, apart_missed}
 use Rattle.atlas.specs.Searches.{none_unless}
 use Rattle.atlas.specs.SlotFacts.{vacant_empty, slot_set, slot_emptied, slot_none, none_vacant, used_few, used_full, clear_at, clear_from, separate_at, sound_set, sound_emptied, sound_none, allowed_from, gives_when, gives_none, gave}
-use Rattle.atlas.specs.Corners.{free_parts, free_from, First, place_first, nowhere}
+use Rattle.atlas.specs.Corners.{Sought, free_parts, free_from, First, place_first, nowhere}
 
 module _ (s : Cornered) (w h : ℕ) where
+  abbrev sought : Sought
+  sought = record { side = s.side; slots = s.slots; width = w; height = h }
+
   -- a free place, as the search tests it and as the law says it
   pub is_free : (x y : ℕ) → free_at s.side s.slots w h y x ≡ true → Free corner s w h x y
   is_free x y e =
-      let f = free_parts s.side s.slots w h x y e in
+      let f = free_parts sought x y e in
       record { inside = (f.right, f.low); clear = λ i r q. missed (rect x y w h) r (clear_at (rect x y w h) s.slots i r f.clear q) }
 
   not_free : (x y : ℕ) → free_at s.side s.slots w h y x ≡ false → Free corner s w h x y → ⊥
   not_free x y e f =
-      both_ways _ e (free_from s.side s.slots w h x y (record {
+      both_ways _ e (free_from sought x y (record {
         right = f.inside.0;
         low = f.inside.1;
         clear = clear_from (rect x y w h) s.slots (λ i t q. apart_missed (rect x y w h) t (f.clear i t q));
       }))
 
-  pub first_least : (x y : ℕ) → First s.side s.slots w h x y → Least s w h x y
+  pub first_least : (x y : ℕ) → First sought x y → Least s w h x y
   first_least x y p = record { free = is_free x y p.free; above = λ a b u. not_free a b (p.above a b u); left = λ a u. not_free a y (p.left a u) }
 
   abbrev least : Option (ℕ × ℕ)
   least = least_place s.side s.slots w h
 
-  pub gave_least : (x y : ℕ) → corner_gives s w h ≡ Some (x, y) → First s.side s.slots w h x y
-  gave_least x y e = place_first s.side s.slots w h x y (gave s.slots w h least (x, y) e).found
+  pub gave_least : (x y : ℕ) → corner_gives s w h ≡ Some (x, y) → First sought x y
+  gave_least x y e = place_first sought x y (gave s.slots w h least (x, y) e).found
 
   pub found_free : (x y : ℕ) → least_place s.side s.slots w h ≡ Some (x, y) → Free corner s w h x y
-  found_free x y e = is_free x y (place_first s.side s.slots w h x y e).free
+  found_free x y e = is_free x y (place_first sought x y e).free
 
   pub takes_least : TakesLeast s w h (corner_gives s w h)
   takes_least = record {
     least = λ x y e. first_least x y (gave_least x y e);
-    none = λ a e x y. not_free x y (nowhere s.side s.slots w h (sym (gives_when s.slots w h least a) ∙ e) x y);
+    none = λ a e x y. not_free x y (nowhere sought (sym (gives_when s.slots w h least a) ∙ e) x y);
   }
 
   -- the same of what a search of an allowed size found

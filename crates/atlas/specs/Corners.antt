@@ -154,7 +154,26 @@ slides x y k w h ss u v e =
     (λ m. m)
     (cases_Bool (meets (rect x y w h) r)))
 
-module _ (S : ℕ) (ss : Slots) (w h : ℕ) where
+-- a search for the place of a picture, among the slots of a square
+pub record Sought : Type 0 where
+  pub side : ℕ
+  pub slots : Slots
+  pub width : ℕ
+  pub height : ℕ
+
+module _ (s : Sought) where
+  abbrev S : ℕ
+  S = s.side
+
+  abbrev ss : Slots
+  ss = s.slots
+
+  abbrev w : ℕ
+  w = s.width
+
+  abbrev h : ℕ
+  h = s.height
+
   pub record FreeAt (x y : ℕ) : Type 0 where
     pub right : x + w ≤ S
     pub low : y + h ≤ S

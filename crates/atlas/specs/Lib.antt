@@ -4,7 +4,6 @@ pub mod Slots
 pub mod Search
 pub mod Corner
 pub mod CornerView
-pub mod Heights
 pub mod Shelf
 pub mod ShelfView
 pub mod CornerLaw

@@ -1,5 +1,5 @@
 -- Shelves: which picture stands on which, which shelves stay, and where a picture goes.
-use Rattle.std.specs.Prelude.{◌≡◌, ℕ, zero, suc, ◌+◌, ◌<◌, ◌≤◌, max, true, cond, ◌&&◌, ◌⊎◌, List, [], ◌∷◌, ◌++◌, length, take, Some, None, Option, ◌==◌, ◌≢◌, nat_le, slice_set, fold, refl}
+use Rattle.std.specs.Prelude.{◌≡◌, ℕ, zero, suc, ◌+◌, ◌-◌, ◌<◌, ◌≤◌, max, true, cond, ◌&&◌, ◌⊎◌, List, [], ◌∷◌, ◌++◌, length, take, Some, None, Option, ◌==◌, ◌≢◌, nat_le, slice_set, fold, refl}
 use Rattle.std.proofs.Common.{sym, ap, subst, ◌∙◌, inl, inr, ⊎_elim, arith, length-append}
 use Rattle.std.proofs.lemmas.List.Sums.{sum_by-cons, sum_by_push}
 use Rattle.std.proofs.lemmas.Bool.{cases_eq, cond-true, cond-false, eq-eqb, ne_eqb, eqb-true, leb-true, le-leb, and_parts, and_from, or_cases, or_left, or_right, false≢true}
@@ -200,18 +200,20 @@ standing_more ss us y (t ∷ ts) f e =
 
 -- the code's walk up from the last shelf
 module _ (ss : Slots) (ts us : List ℕ) (t : ℕ) (e : ts ≡ us ++ t ∷ []) where
-  pub last_depth : depth ts ≡ depth us + t
-  last_depth = ap depth e ∙ sum_by_push (λ x. x) us t
+  -- its top, n - t, is where those above it end
+  module _ (n f : ℕ) (deep : n ≡ depth ts) where
+    pub last_top : n - t ≡ depth us
+    last_top = let d = ap depth e ∙ sum_by_push (λ x. x) us t in omega arith
 
-  pub last_stands : 1 ≤ furthest (depth us) ss → standing ss 0 ts ≡ length ts
-  last_stands f =
-      let p = at_same ss (0 + depth us) (depth us) (omega arith) in
-      ap (standing ss 0) e ∙ (standing_last ss 0 us t (omega arith) ∙ sym (ap length e ∙ length-append us (t ∷ []) ∙ omega arith))
+    pub last_stands : f ≡ furthest (n - t) ss → 1 ≤ f → standing ss 0 ts ≡ length ts
+    last_stands far l =
+        let p = at_same ss (0 + depth us) (n - t) (omega (arith, last_top)) in
+        ap (standing ss 0) e ∙ (standing_last ss 0 us t (omega arith) ∙ sym (ap length e ∙ length-append us (t ∷ []) ∙ omega arith))
 
-  pub last_goes : furthest (depth us) ss ≡ 0 → standing ss 0 ts ≡ standing ss 0 us
-  last_goes f =
-      let p = at_same ss (0 + depth us) (depth us) (omega arith) in
-      ap (standing ss 0) e ∙ standing_less ss 0 us t (omega arith)
+    pub last_goes : f ≡ furthest (n - t) ss → f ≡ 0 → standing ss 0 ts ≡ standing ss 0 us
+    last_goes far z =
+        let p = at_same ss (0 + depth us) (n - t) (omega (arith, last_top)) in
+        ap (standing ss 0) e ∙ standing_less ss 0 us t (omega arith)
 
 -- a place that depends on two fits
 module _ (a b c d : ℕ) (p : ℕ × ℕ) where

@@ -12,7 +12,7 @@ use Rattle.atlas.specs.Kind.{AtlasLaws, Free}
 use Rattle.atlas.specs.Shelf.{Shelved, ShelfSound, shelf, shelf_gives, shelf_put, shelf_freed, emptied, put_on, open_with, chosen, standing, stands, depth}
 use Rattle.atlas.specs.RectFacts.{missed}
 use Rattle.atlas.specs.Searches.{none_unless}
-use Rattle.atlas.specs.SlotFacts.{vacant_empty, slot_set, slot_emptied, slot_before, slot_none, none_vacant, used_few, used_full, separate_at, sound_set, sound_emptied, sound_none, Allowed, allowed_from, gives_when, gives_none, gave}
+use Rattle.atlas.specs.SlotFacts.{vacant_empty, slot_set, slot_emptied, slot_before, slot_none, none_vacant, used_few, used_full, separate_at, sound_set, sound_emptied, sound_none, allowed_from, gives_when, gives_none, Gave, gave}
 use Rattle.atlas.specs.ShelfFacts.{furthest_covers, furthest_bare, furthest_more, stands_more, stands_last, stand_at, stand_from, stand_set, tall_push, tall_take, tall_few, standing_few, standing_take, standing_last, standing_none, standing_more, stands_still, fit_some, goes, goes_clear}
 
 module _ (s : Shelved) (v : ShelfSound s) where
@@ -63,31 +63,31 @@ module _ (s : Shelved) (v : ShelfSound s) where
       }
 
   -- the place that was chosen
-  module _ (w h a b : ℕ) (may : Allowed ss w h) (e : chosen s.side ss w h 0 ts ≡ Some (a, b)) where
+  module _ (w h a b : ℕ) (picked : Gave ss w h (chosen s.side ss w h 0 ts) (a, b)) where
     goes_inside : Inside s.side (rect a b w h)
     goes_inside =
-        let g = goes s.side ss w h 0 ts a b e in
+        let g = goes s.side ss w h 0 ts a b picked.found in
         let d = v.within in
         (g.right, ⊎_elim (λ c. let k = c.1 in omega arith) (λ c. c.1) g.spot)
 
     goes_far : (j : ℕ) (t : Rect) → slot ss j ≡ Some t → Apart (rect a b w h) t
-    goes_far j t q = goes_clear s.side ss w h 0 ts a b j t q (inr (stand_at ts ss j t v.held q).on) e
+    goes_far j t q = goes_clear s.side ss w h 0 ts a b j t q (inr (stand_at ts ss j t v.held q).on) picked.found
 
     pub chosen_free : Free shelf s w h a b
     chosen_free = record { inside = goes_inside; clear = goes_far }
 
     pub place_open : b ≡ depth ts → ShelfSound (open_with s (vacant ss) (rect a b w h))
-    place_open q = open_sound (vacant ss) (rect a b w h) may.space may.wide goes_inside goes_far may.high q
+    place_open q = open_sound (vacant ss) (rect a b w h) picked.may.space picked.may.wide goes_inside goes_far picked.may.high q
 
     pub place_put : (b ≢ depth ts) → ShelfSound (put_on s (vacant ss) (rect a b w h))
     place_put ne =
-        let g = goes s.side ss w h 0 ts a b e in
-        put_sound (vacant ss) (rect a b w h) may.space may.wide goes_inside goes_far (vacant_empty ss) (⊎_elim (λ c. c.0) (λ c. absurd (ne (let k = c.0 in omega arith))) g.spot)
+        let g = goes s.side ss w h 0 ts a b picked.found in
+        put_sound (vacant ss) (rect a b w h) picked.may.space picked.may.wide goes_inside goes_far (vacant_empty ss) (⊎_elim (λ c. c.0) (λ c. absurd (ne (let k = c.0 in omega arith))) g.spot)
 
     -- each shelf is at least 1 tall, so there is room to note one more
     pub few_shelves : b ≡ depth ts → length ts < 8192
     few_shelves q =
-        let m = may.high in
+        let m = picked.may.high in
         let i = goes_inside.1 in
         let t = tall_few ts v.tall in
         let k = v.square.small in
@@ -116,12 +116,12 @@ module _ (s : Shelved) (w h : ℕ) where
   sound_put (Some p) e v =
       let g = gave s.slots w h choice p e in
       ⊎_elim
-      (λ q. subst ShelfSound (sym (put_opens p q)) (place_open s v w h p.0 p.1 g.may g.found q))
-      (λ q. subst ShelfSound (sym (put_sets p q)) (place_put s v w h p.0 p.1 g.may g.found q))
+      (λ q. subst ShelfSound (sym (put_opens p q)) (place_open s v w h p.0 p.1 g q))
+      (λ q. subst ShelfSound (sym (put_sets p q)) (place_put s v w h p.0 p.1 g q))
       (cases_eq p.1 (depth s.shelves))
 
   gives_free : (a b : ℕ) → ShelfSound s → shelf_gives s w h ≡ Some (a, b) → Free shelf s w h a b
-  gives_free a b v e = let g = gave s.slots w h choice (a, b) e in chosen_free s v w h a b g.may g.found
+  gives_free a b v e = let g = gave s.slots w h choice (a, b) e in chosen_free s v w h a b g
 
   -- with nothing live no shelf stands
   roomy_in : ShelfSound s → ((i : ℕ) → slot s.slots i ≡ None) → 1 ≤ w → w ≤ s.side → 1 ≤ h → h ≤ s.side → is_some (shelf_gives s w h) ≡ true

@@ -30,7 +30,7 @@ pub trait Atlas: Sized {
     fn free(&mut self, handle: u32)
         ensures { state self.new ≡ kind.freed (state self.old) handle };
 
-    // A separate atlas in the same state. No `Copy` above the trait stands for it: an atlas may own memory.
+    // A separate atlas in the same state. No supertrait `Copy` in its place: that would ask more of a type that is an atlas.
     fn duplicate(&self) -> Self
         ensures { state result ≡ state self.now };
 

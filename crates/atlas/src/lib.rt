@@ -6,7 +6,6 @@ mod corner_atlas;
 mod rect;
 mod search;
 mod shelf_atlas;
-mod shelves;
 mod square;
 
 pub use atlas::Atlas;

@@ -7,6 +7,7 @@ use crate::rect::Rect;
 use crate::square::Square;
 
 // A search among rectangles of a square, for the place of a picture of `width` by `height`.
+// Two numbers throughout: with one size each clause would say more, as `self.now.size.width self.now.size.height` in `past`.
 #[derive(Clone, Copy)]
 struct Search<'a> {
     slots: &'a [Option<Rect>],

@@ -1,22 +1,22 @@
 // The shelf atlas, and what is always true of it.
 ghost use Rattle.std.specs.Prelude.{◌≡◌, ◌≤◌, true, length};
-ghost use Rattle.atlas.specs.Heights.{heights_of};
+ghost use Rattle.fixed_vec.specs.Items.{items_of};
 ghost use Rattle.atlas.specs.Shelf.{depth, all_tall, all_stand, standing, on_shelf, new_shelf, chosen};
 
 use crate::atlas::Atlas;
 use crate::rect::Rect;
-use crate::shelves::{Shelves, bottom};
-use crate::square::Square;
+use crate::square::{Square, bottom};
+use fixed_vec::FixedVec;
 
 // An atlas that sets pictures side by side on shelves, each as tall as the picture that opened it.
 #[derive(Clone, Copy)]
 pub struct ShelfAtlas {
     square: Square,
-    shelves: Shelves,
-    ghost tall: { all_tall (heights_of shelves) ≡ true },
-    ghost within: { depth (heights_of shelves) ≤ square.side },
-    ghost held: { all_stand (heights_of shelves) square.slots ≡ true },
-    ghost trim: { standing square.slots 0 (heights_of shelves) ≡ length (heights_of shelves) },
+    shelves: FixedVec<u32, 8192>,
+    ghost tall: { all_tall (items_of shelves) ≡ true },
+    ghost within: { depth (items_of shelves) ≤ square.side },
+    ghost held: { all_stand (items_of shelves) square.slots ≡ true },
+    ghost trim: { standing square.slots 0 (items_of shelves) ≡ length (items_of shelves) },
 }
 
 impl ShelfAtlas {
@@ -47,7 +47,7 @@ impl ShelfAtlas {
 
     // The place on the first shelf that will do, else on a new one below.
     fn choose(&self, width: u32, height: u32) -> Option<(u32, u32)>
-        ensures { result ≡ chosen self.now.square.side self.now.square.slots width height 0 (heights_of self.now.shelves) }
+        ensures { result ≡ chosen self.now.square.side self.now.square.slots width height 0 (items_of self.now.shelves) }
     {
         let mut y = 0;
         for shelf in self.shelves.as_slice() {
@@ -79,7 +79,7 @@ impl Atlas for ShelfAtlas {
     fn new(side: u32) -> ShelfAtlas {
         ShelfAtlas {
             square: Square::new(side),
-            shelves: Shelves::new(),
+            shelves: FixedVec::new(),
         }
     }
 

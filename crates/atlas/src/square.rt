@@ -6,7 +6,6 @@ ghost use Rattle.atlas.specs.Shelf.{depth, reach as reaching, furthest, standing
 ghost use Rattle.atlas.specs.declared.rect.Rect.{Rect};
 
 use crate::rect::Rect;
-use crate::shelves::bottom;
 
 // Up to 256 live rectangles, none of which shares a point with another; the index of its slot is a rectangle's handle.
 #[derive(Clone, Copy)]
@@ -113,6 +112,14 @@ impl Square {
             self.slots[handle] = None;
         }
     }
+}
+
+// How deep the shelves reach.
+pub(crate) fn bottom(shelves: &[u32]) -> u32
+    requires { depth shelves.now < 2 ^ 32 }
+    ensures { result ≡ depth shelves.now }
+{
+    shelves.iter().sum()
 }
 
 // How far the slot's picture reaches to the right, if its top is at `y`.

@@ -1,5 +1,5 @@
 -- What a bounded list holds, and what it has room for.
-use Rattle.std.specs.Prelude.{◌≡◌, ℕ, ◌+◌, min, Bool, List, [], ◌++◌, length, vec_items, nat_le}
+use Rattle.std.specs.Prelude.{◌≡◌, ℕ, ◌+◌, ◌≤◌, min, Bool, List, [], ◌++◌, length, vec_items, nat_le}
 use Rattle.bounded.specs.declared.bounded_vec.BoundedVec.{BoundedVec}
 
 module _ {T : Type 0} where
@@ -9,7 +9,11 @@ module _ {T : Type 0} where
   abbrev pub len : BoundedVec T → ℕ
   len l = length (vec_items l.items)
 
-  -- whether that many more fit
+  -- that many more fit
+  abbrev pub Fits : BoundedVec T → ℕ → Type 0
+  Fits l more = len l + more ≤ l.limit
+
+  -- whether they do
   abbrev pub room : BoundedVec T → ℕ → Bool
   room l more = nat_le (len l + more) l.limit
 

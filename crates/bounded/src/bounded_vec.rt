@@ -13,8 +13,8 @@ pub struct BoundedVec<T> {
 }
 
 impl<T> BoundedVec<T> {
-    ghost use Rattle.std.specs.Prelude.{◌≡◌, ◌<◌, [], ◌∷◌, IfOk};
-    ghost use Rattle.bounded.specs.Held.{items as items_of, len as len_of, room, Fresh, Extends};
+    ghost use Rattle.std.specs.Prelude.{◌≡◌, [], ◌∷◌, IfOk};
+    ghost use Rattle.bounded.specs.Held.{items as items_of, len as len_of, room, Fits, Fresh, Extends};
 
     // An empty list with room for `limit` entries; more than 1,000,000 counts as that.
     pub fn make(heap: Global, limit: usize) -> Result<BoundedVec<T>, AllocError>
@@ -48,7 +48,7 @@ impl<T> BoundedVec<T> {
     }
 
     pub fn push(&mut self, x: T)
-        requires { len_of self.old < self.old.limit }
+        requires { Fits self.old 1 }
         ensures { Extends self.old self.new (x ∷ []) }
     {
         self.items.push_reserved(x);
@@ -56,11 +56,10 @@ impl<T> BoundedVec<T> {
 }
 
 impl<T: Copy> BoundedVec<T> {
-    ghost use Rattle.std.specs.Prelude.{◌+◌};
-    ghost use Rattle.bounded.specs.Held.{items as items_of, len as len_of, Extends};
+    ghost use Rattle.bounded.specs.Held.{items as items_of, len as len_of, Fits, Extends};
 
     pub fn extend_from_slice(&mut self, more: &[T])
-        requires { len_of self.old + length more.now ≤ self.old.limit }
+        requires { Fits self.old (length more.now) }
         ensures { Extends self.old self.new more.now }
     {
         let _ = self.items.extend_from_slice(more);
@@ -68,7 +67,7 @@ impl<T: Copy> BoundedVec<T> {
 
     // The entries of another list, after its own.
     pub fn append(&mut self, other: &BoundedVec<T>)
-        requires { len_of self.old + len_of other.now ≤ self.old.limit }
+        requires { Fits self.old (len_of other.now) }
         ensures { Extends self.old self.new (items_of other.now) }
     {
         self.extend_from_slice(other.as_slice());

@@ -1,9 +1,10 @@
-ghost use Rattle.std.specs.Prelude.{◌≡◌, ℕ, ◌+◌, ◌<◌, ◌≤◌, ◌++◌, map, length, slice_index_or};
-ghost use Rattle.bounded.specs.Held.{items as items_of, len as len_of, Extends};
+ghost use Rattle.std.specs.Prelude.{◌≡◌, ℕ, ◌+◌, ◌<◌, ◌++◌, map, length, slice_index_or};
+ghost use Rattle.bounded.specs.Held.{items as items_of, len as len_of, Fits, Extends};
 
 use crate::bounded_vec::BoundedVec;
 
-// What an entry of one list becomes in another.
+// What an entry of one list becomes in another. A trait and no closure: its `image` is one function for all entries,
+// where of a closure each call would have to be shown to give it.
 pub trait Mapping<T, U> {
     // the entries that it may be asked of
     ghost fit: { Self → T → Type 0 };
@@ -17,7 +18,7 @@ pub trait Mapping<T, U> {
 
 // The images of some entries, after those that are there.
 pub fn extend_mapped<T, U, M: Mapping<T, U>>(to: &mut BoundedVec<U>, from: &[T], by: &M)
-    requires room { len_of to.old + length from.now ≤ to.old.limit }
+    requires room { Fits to.old (length from.now) }
     requires fits { (k : ℕ) (d : T) → k < length from.now → M.Mapping.fit by.now (slice_index_or from.now k d) }
     ensures extended { Extends to.old to.new (map (M.Mapping.image by.now) from.now) }
     ensures len { len_of to.new ≡ len_of to.old + length from.now }
@@ -29,7 +30,7 @@ pub fn extend_mapped<T, U, M: Mapping<T, U>>(to: &mut BoundedVec<U>, from: &[T],
 
 // The images of another list's entries, after its own.
 pub fn append_mapped<T, U, M: Mapping<T, U>>(to: &mut BoundedVec<U>, from: &BoundedVec<T>, by: &M)
-    requires room { len_of to.old + len_of from.now ≤ to.old.limit }
+    requires room { Fits to.old (len_of from.now) }
     requires fits { (k : ℕ) (d : T) → k < length (items_of from.now) → M.Mapping.fit by.now (slice_index_or (items_of from.now) k d) }
     ensures extended { Extends to.old to.new (map (M.Mapping.image by.now) (items_of from.now)) }
     ensures len { len_of to.new ≡ len_of to.old + len_of from.now }

@@ -27,8 +27,5 @@ abbrev pub transform_bytes : Transform → List ℕ
 transform_bytes t =
     floats_bytes (at t.matrix 0 ∷ at t.matrix 1 ∷ at t.matrix 2 ∷ at t.matrix 3 ∷ at t.translation 0 ∷ at t.translation 1 ∷ [])
 
-abbrev pub transforms_bytes : List Transform → List ℕ
-transforms_bytes = flat_map transform_bytes
-
 abbrev pub style_bytes : Style → List ℕ
 style_bytes s = words_bytes (s.flags_and_miter_limit ∷ s.line_width ∷ [])

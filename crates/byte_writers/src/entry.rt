@@ -1,8 +1,8 @@
 ghost use Rattle.std.specs.Prelude.{◌≡◌, ℕ, ◌+◌, ◌≤◌, List, length, refl};
 ghost use Rattle.byte_writers.specs.Bytes.{byte, word_bytes, float_bytes, transform_bytes, style_bytes};
-ghost use Rattle.byte_writers.specs.Put.{Put};
+ghost use Rattle.byte_writers.specs.Wrote.{Wrote};
 
-use crate::put::put_all;
+use crate::writer::Writer;
 use math::Transform;
 use records::Style;
 
@@ -13,21 +13,12 @@ pub trait Entry: Copy {
     // How many bytes an entry has.
     ghost wide: { ℕ };
 
-    // Writes the bytes at `at`, touches nothing else, and answers where the next write goes.
-    fn put(&self, out: &mut [u8], at: usize) -> usize
-        requires { at + wide ≤ length out.old }
-        ensures { Put out.old at (bytes self.now) result out.new };
+    // Writes the bytes and touches nothing else.
+    fn put(&self, writer: &mut Writer<'_>)
+        requires { writer.old.at + wide ≤ length writer.old.out.now }
+        ensures { Wrote writer.old (bytes self.now) writer.new };
 
     ghost wides: { (x : Self) → length (bytes x) ≡ wide };
-}
-
-fn put_bytes(out: &mut [u8], at: usize, bytes: &[u8]) -> usize
-    requires { at + length bytes.now ≤ length out.old }
-    ensures { Put out.old at bytes.now result out.new }
-{
-    let next = at + bytes.len();
-    out[at..next].copy_from_slice(bytes);
-    next
 }
 
 impl Entry for u8 {
@@ -37,8 +28,8 @@ impl Entry for u8 {
 
     ghost wides = { λ _. refl };
 
-    fn put(&self, out: &mut [u8], at: usize) -> usize {
-        put_bytes(out, at, &[*self])
+    fn put(&self, writer: &mut Writer<'_>) {
+        writer.put_bytes(&[*self]);
     }
 }
 
@@ -49,8 +40,8 @@ impl Entry for u32 {
 
     ghost wides = { λ _. refl };
 
-    fn put(&self, out: &mut [u8], at: usize) -> usize {
-        put_bytes(out, at, &self.to_le_bytes())
+    fn put(&self, writer: &mut Writer<'_>) {
+        writer.put_bytes(&self.to_le_bytes());
     }
 }
 
@@ -61,8 +52,8 @@ impl Entry for f32 {
 
     ghost wides = { λ _. refl };
 
-    fn put(&self, out: &mut [u8], at: usize) -> usize {
-        std::num::f32_to_bits_with_nan(*self).put(out, at)
+    fn put(&self, writer: &mut Writer<'_>) {
+        std::num::f32_to_bits_with_nan(*self).put(writer);
     }
 }
 
@@ -73,10 +64,10 @@ impl Entry for Transform {
 
     ghost wides = { λ _. refl };
 
-    fn put(&self, out: &mut [u8], at: usize) -> usize {
+    fn put(&self, writer: &mut Writer<'_>) {
         let [a, b, c, d] = self.matrix;
         let [x, y] = self.translation;
-        put_all(out, at, &[a, b, c, d, x, y])
+        writer.put_all(&[a, b, c, d, x, y]);
     }
 }
 
@@ -87,7 +78,7 @@ impl Entry for Style {
 
     ghost wides = { λ _. refl };
 
-    fn put(&self, out: &mut [u8], at: usize) -> usize {
-        put_all(out, at, &[self.flags_and_miter_limit, self.line_width])
+    fn put(&self, writer: &mut Writer<'_>) {
+        writer.put_all(&[self.flags_and_miter_limit, self.line_width]);
     }
 }

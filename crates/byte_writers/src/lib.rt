@@ -1,8 +1,8 @@
-// Little-endian writers into a lent buffer, from a place on. Each runs at the speed of a copy.
+// Little-endian writers into a lent buffer. Each runs at the speed of a copy.
 #![tactic(auto)]
 
 mod entry;
-mod put;
+mod writer;
 
 pub use entry::Entry;
-pub use put::{put_all, put_repeated};
+pub use writer::Writer;

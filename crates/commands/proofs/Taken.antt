@@ -1,12 +1,7 @@
 -- A list that is read entry by entry.
 use Rattle.std.proofs.Common.{◌≡◌, ℕ, ◌<◌, List, [], ◌∷◌, ◌++◌, length, get_or, Some, None, Option, sym, refl, ap, ◌∙◌, subst, append_assoc, append-nil, arith, length-append}
 use Rattle.std.proofs.lemmas.List.{get_or_at}
-use Rattle.commands.specs.Entries.{ReadAll, ReadNot, entries_of}
-use Rattle.job_text.specs.Words.{parts_of}
-
-pub some_entries : (text : List ℕ) → 0 < length text → entries_of text ≡ parts_of 44 text
-some_entries [] h = absurd (omega arith)
-some_entries (c ∷ cs) h = refl
+use Rattle.commands.specs.Entries.{ReadAll, ReadNot}
 
 module _ {X : Type 0} (R : List ℕ → Option X → Type 0) where
   push : (ts : List (List ℕ)) (t : List ℕ) (xs : List X) (x : X) → ReadAll R ts xs → R t (Some x) → ReadAll R (ts ++ t ∷ []) (xs ++ x ∷ [])

@@ -1,9 +1,8 @@
 -- The verbs by their names.
-use Rattle.std.specs.Prelude.{ℕ, Bool, cond, ◌||◌, ◌==◌, List, length, slice_index, Option, Some, None, Result, Ok, codes}
+use Rattle.std.specs.Prelude.{ℕ, Bool, cond, ◌||◌, ◌==◌, List, [], ◌∷◌, length, slice_index, Option, Some, None, Result, Ok, codes}
 use Rattle.std.specs.Option.{ok_or, option_map}
 use Rattle.std.specs.List.{find}
 use Rattle.std.specs.Str.{bytes_eq}
-use Rattle.commands.specs.declared.verb.TheConstants.{VERBS}
 use Rattle.commands.specs.declared.reason.Reason.{Reason}
 use Rattle.commands.specs.declared.reason.Reason.TheVariants.{UnknownCommand}
 use Rattle.commands.specs.declared.verb.Verb.{Verb}
@@ -29,9 +28,12 @@ verb_name Plain = codes "plain"
 verb_name State = codes "state"
 verb_name View = codes "view"
 
+abbrev pub verbs : List Verb
+verbs = Scene ∷ Lay ∷ Gradient ∷ Picture ∷ Run ∷ Append ∷ Show ∷ Shape ∷ Table ∷ Glyph ∷ Resolver ∷ Resolve ∷ Keep ∷ Reject ∷ Mark ∷ Plain ∷ State ∷ View ∷ []
+
 -- the verb that has the word's name, if one has
 unfoldable pub verb_of : List ℕ → Option Verb
-verb_of word = find (λ v. bytes_eq (verb_name v) word) VERBS
+verb_of word = find (λ v. bytes_eq (verb_name v) word) verbs
 
 -- whether a line is passed over, by its first word: it has none, or a comment begins
 abbrev pub is_passed_over : List ℕ → Bool

@@ -1,12 +1,12 @@
 ghost use Rattle.commands.specs.Subject.{BeginsWithBoth};
 
-use crate::command::{Command, read_name};
+use crate::command::Command;
 use crate::fields::Fields;
 use crate::reason::Reason;
+use crate::subject::Subject;
 use crate::verb::Verb;
 use job_text::{Line, Name};
 use math::Transform;
-use std::alloc::Global;
 use std::fmt;
 
 // `append`: appends another scene to a scene.
@@ -30,19 +30,27 @@ impl fmt::Display for BothNames {
     }
 }
 
+impl Subject for BothNames {
+    ghost begins_with = { BeginsWithBoth };
+
+    fn read(line: &mut Line<'_>) -> Result<BothNames, Reason> {
+        let scene = Name::read(line)?;
+        let other = Name::read(line)?;
+        Ok(BothNames { scene, other })
+    }
+}
+
 impl Command for AppendCommand {
     const VERB: Verb = Verb::Append;
+
+    const KEYS: &'static [&'static str] = &["transform"];
 
     type Subject = BothNames;
 
     ghost subject_of = { λ c. record { scene = c.scene; other = c.other } };
 
-    ghost begins_with = { BeginsWithBoth };
-
-    fn read(heap: Global, line: &mut Line<'_>) -> Result<AppendCommand, Reason> {
-        let scene = read_name(line)?;
-        let other = read_name(line)?;
-        let fields = Fields::read(heap, line, &["transform"])?;
+    fn from_fields(subject: BothNames, fields: &Fields<'_>) -> Result<AppendCommand, Reason> {
+        let BothNames { scene, other } = subject;
         Ok(AppendCommand {
             scene,
             other,

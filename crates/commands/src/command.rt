@@ -1,39 +1,35 @@
-ghost use Rattle.std.specs.Prelude.{◌≡◌, ℕ, true, false, List, IfOk, OnOk, MatchResult};
-ghost use Rattle.job_text.specs.Names.{name_text};
-ghost use Rattle.job_text.specs.Words.{first_word, after_word};
-ghost use Rattle.commands.specs.Subject.{BeginsWithName};
+ghost use Rattle.std.specs.Prelude.{◌≡◌, IfOk};
 
+use crate::fields::Fields;
 use crate::reason::Reason;
+use crate::subject::Subject;
 use crate::verb::Verb;
-use job_text::{Line, Name};
+use job_text::Line;
 use std::alloc::Global;
-use std::fmt;
 
 // A command of a job.
 pub trait Command: Sized {
     const VERB: Verb;
 
-    // What the command is about, as the line of its answer says after the verb.
-    type Subject: fmt::Display + Copy;
+    // The keys of the fields that it may have.
+    const KEYS: &'static [&'static str];
+
+    type Subject: Subject;
 
     ghost subject_of: { Self → Self.Subject };
 
-    // A line that begins with what is about this subject.
-    ghost begins_with: { List ℕ → Self.Subject → Type 0 };
-
     // Reads what follows the verb in a line.
-    fn read(heap: Global, line: &mut Line<'_>) -> Result<Self, Reason>
-        ensures { IfOk result (λ c. begins_with line.old.rest.now (subject_of c)) };
+    final fn read(heap: Global, line: &mut Line<'_>) -> Result<Self, Reason>
+        ensures { IfOk result (λ c. Self.Subject.begins_with line.old.rest.now (subject_of c)) }
+    {
+        let subject = Self::Subject::read(line)?;
+        let fields = Fields::read(heap, line, Self::KEYS)?;
+        Self::from_fields(subject, &fields)
+    }
+
+    fn from_fields(subject: Self::Subject, fields: &Fields<'_>) -> Result<Self, Reason>
+        ensures { IfOk result (λ c. subject_of c ≡ subject) };
 
     fn subject(&self) -> Self::Subject
         ensures { result ≡ subject_of self.now };
-}
-
-// A name, which is the next word of a line.
-pub(crate) fn read_name(line: &mut Line<'_>) -> Result<Name, Reason>
-    ensures name { MatchResult result (BeginsWithName line.old.rest.now) (λ _. name_text (first_word line.old.rest.now) ≡ false) }
-    ensures after { line.new.rest.now ≡ after_word line.old.rest.now }
-{
-    let word = line.next().ok_or(Reason::MissingName)?;
-    Ok(Name::try_from(word)?)
 }

@@ -1,7 +1,6 @@
-use crate::fields::split_once;
 use crate::values::{Number, Value};
 use draw::{Color, ColorStop};
-use job_text::{Flaw, Parts};
+use job_text::{Flaw, Parts, cut};
 use math::Transform;
 use records::{Glyph, Style};
 use std::alloc::Global;
@@ -54,7 +53,8 @@ impl Value for Style {
 
 impl Value for Glyph {
     fn read(heap: Global, text: &[u8]) -> Result<Glyph, Flaw> {
-        let (id, place) = split_once(b':', text).ok_or(Flaw::Form)?;
+        let (id, place) = cut(b':', text);
+        let place = place.ok_or(Flaw::Form)?;
         let Number(id) = Value::read(heap, id)?;
         let [x, y]: [f32; 2] = Value::read(heap, place)?;
         Ok(Glyph { id, x, y })

@@ -1,21 +1,14 @@
 use crate::reason::Reason;
 use crate::values::Value;
-use job_text::{Flaw, Line, up_to};
+use job_text::{Flaw, Line, cut};
 use std::alloc::Global;
 use std::collections::BTreeMap;
 
 // The fields of a command, each once.
 #[derive(Drop)]
-pub(crate) struct Fields<'a> {
+pub struct Fields<'a> {
     heap: Global,
     values: BTreeMap<&'static str, &'a [u8]>,
-}
-
-// What stands before and after the first `byte`, if there is one.
-pub(crate) fn split_once(byte: u8, text: &[u8]) -> Option<(&[u8], &[u8])> {
-    let (front, rest) = text.split_at(up_to(byte, text));
-    let (_, back) = rest.split_first()?;
-    Some((front, back))
 }
 
 // The key and the value of a field's word, whose key is one of those that the command has.
@@ -23,7 +16,8 @@ fn read_field<'a>(
     word: &'a [u8],
     keys: &[&'static str],
 ) -> Result<(&'static str, &'a [u8]), Reason> {
-    let (front, value) = split_once(b'=', word).ok_or(Reason::NoField)?;
+    let (front, value) = cut(b'=', word);
+    let value = value.ok_or(Reason::NoField)?;
     let key = keys
         .iter()
         .copied()

@@ -1,14 +1,11 @@
-ghost use Rattle.commands.specs.Subject.{BeginsWithName};
-
-use crate::command::{Command, read_name};
+use crate::command::Command;
 use crate::fields::Fields;
 use crate::reason::Reason;
 use crate::values::Number;
 use crate::verb::Verb;
 use draw::ColorStop;
-use job_text::{Line, Name};
+use job_text::Name;
 use records::DrawLinearGradient;
-use std::alloc::Global;
 
 // `gradient`: adds a linear gradient, or a solid colour where it has fewer than two stops.
 #[derive(Drop)]
@@ -24,15 +21,13 @@ pub struct GradientCommand {
 impl Command for GradientCommand {
     const VERB: Verb = Verb::Gradient;
 
+    const KEYS: &'static [&'static str] = &["p0", "p1", "stops", "alpha", "extend"];
+
     type Subject = Name;
 
     ghost subject_of = { λ c. c.scene };
 
-    ghost begins_with = { BeginsWithName };
-
-    fn read(heap: Global, line: &mut Line<'_>) -> Result<GradientCommand, Reason> {
-        let scene = read_name(line)?;
-        let fields = Fields::read(heap, line, &["p0", "p1", "stops", "alpha", "extend"])?;
+    fn from_fields(scene: Name, fields: &Fields<'_>) -> Result<GradientCommand, Reason> {
         let p0 = fields.needed("p0")?;
         let p1 = fields.needed("p1")?;
         let alpha = fields.needed("alpha")?;

@@ -1,14 +1,11 @@
-ghost use Rattle.commands.specs.Subject.{BeginsWithName};
-
-use crate::command::{Command, read_name};
+use crate::command::Command;
 use crate::fields::Fields;
 use crate::reason::Reason;
 use crate::values::Number;
 use crate::verb::Verb;
-use job_text::{Line, Name};
+use job_text::Name;
 use math::Transform;
 use records::{Counts, Streams, Style};
-use std::alloc::Global;
 
 // `lay`: adds entries to the six streams, adds to the counts and sets the flags.
 #[derive(Drop)]
@@ -23,20 +20,6 @@ pub struct LayCommand {
     transforms: Vec<Transform>,
     styles: Vec<Style>,
 }
-
-const KEYS: [&str; 11] = [
-    "path_tags",
-    "path_data",
-    "draw_tags",
-    "draw_data",
-    "transforms",
-    "styles",
-    "paths",
-    "segments",
-    "clips",
-    "open_clips",
-    "flags",
-];
 
 fn count(fields: &Fields<'_>, key: &'static str) -> Result<u32, Reason> {
     let Number(count) = fields.optional(key)?.unwrap_or(Number(0));
@@ -55,19 +38,29 @@ fn read_counts(fields: &Fields<'_>) -> Result<Counts, Reason> {
 impl Command for LayCommand {
     const VERB: Verb = Verb::Lay;
 
+    const KEYS: &'static [&'static str] = &[
+        "path_tags",
+        "path_data",
+        "draw_tags",
+        "draw_data",
+        "transforms",
+        "styles",
+        "paths",
+        "segments",
+        "clips",
+        "open_clips",
+        "flags",
+    ];
+
     type Subject = Name;
 
     ghost subject_of = { λ c. c.scene };
 
-    ghost begins_with = { BeginsWithName };
-
-    fn read(heap: Global, line: &mut Line<'_>) -> Result<LayCommand, Reason> {
-        let scene = read_name(line)?;
-        let fields = Fields::read(heap, line, &KEYS)?;
+    fn from_fields(scene: Name, fields: &Fields<'_>) -> Result<LayCommand, Reason> {
         // In this order: the first wrong value is the one reported.
         Ok(LayCommand {
             scene,
-            counts: read_counts(&fields)?,
+            counts: read_counts(fields)?,
             flags: fields.optional("flags")?.unwrap_or(0),
             path_data: fields.list("path_data")?,
             draw_tags: fields.list("draw_tags")?,

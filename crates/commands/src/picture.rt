@@ -1,13 +1,10 @@
-ghost use Rattle.commands.specs.Subject.{BeginsWithName};
-
-use crate::command::{Command, read_name};
+use crate::command::Command;
 use crate::fields::Fields;
 use crate::reason::Reason;
 use crate::values::Number;
 use crate::verb::Verb;
-use job_text::{Line, Name};
+use job_text::Name;
 use records::{Image, ImageSampler};
-use std::alloc::Global;
 
 // `picture`: adds a picture.
 #[derive(Clone, Copy, Drop)]
@@ -17,18 +14,6 @@ pub struct PictureCommand {
     pub sampler: ImageSampler,
     pub alpha: f32,
 }
-
-const KEYS: [&str; 9] = [
-    "id",
-    "size",
-    "format",
-    "alpha_type",
-    "quality",
-    "x_extend",
-    "y_extend",
-    "sampler_alpha",
-    "alpha",
-];
 
 fn read_image(fields: &Fields<'_>) -> Result<Image, Reason> {
     let id = fields.needed("id")?;
@@ -60,19 +45,27 @@ fn read_sampler(fields: &Fields<'_>) -> Result<ImageSampler, Reason> {
 impl Command for PictureCommand {
     const VERB: Verb = Verb::Picture;
 
+    const KEYS: &'static [&'static str] = &[
+        "id",
+        "size",
+        "format",
+        "alpha_type",
+        "quality",
+        "x_extend",
+        "y_extend",
+        "sampler_alpha",
+        "alpha",
+    ];
+
     type Subject = Name;
 
     ghost subject_of = { λ c. c.scene };
 
-    ghost begins_with = { BeginsWithName };
-
-    fn read(heap: Global, line: &mut Line<'_>) -> Result<PictureCommand, Reason> {
-        let scene = read_name(line)?;
-        let fields = Fields::read(heap, line, &KEYS)?;
+    fn from_fields(scene: Name, fields: &Fields<'_>) -> Result<PictureCommand, Reason> {
         Ok(PictureCommand {
             scene,
-            image: read_image(&fields)?,
-            sampler: read_sampler(&fields)?,
+            image: read_image(fields)?,
+            sampler: read_sampler(fields)?,
             alpha: fields.needed("alpha")?,
         })
     }

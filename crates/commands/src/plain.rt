@@ -1,11 +1,8 @@
-ghost use Rattle.commands.specs.Subject.{BeginsWithName};
-
-use crate::command::{Command, read_name};
+use crate::command::Command;
 use crate::fields::Fields;
 use crate::reason::Reason;
 use crate::verb::Verb;
-use job_text::{Line, Name};
-use std::alloc::Global;
+use job_text::Name;
 
 // `plain`: packs a scene without anything that is bound late, into a buffer of so many bytes.
 #[derive(Clone, Copy, Drop)]
@@ -17,15 +14,13 @@ pub struct PlainCommand {
 impl Command for PlainCommand {
     const VERB: Verb = Verb::Plain;
 
+    const KEYS: &'static [&'static str] = &["buffer"];
+
     type Subject = Name;
 
     ghost subject_of = { λ c. c.scene };
 
-    ghost begins_with = { BeginsWithName };
-
-    fn read(heap: Global, line: &mut Line<'_>) -> Result<PlainCommand, Reason> {
-        let scene = read_name(line)?;
-        let fields = Fields::read(heap, line, &["buffer"])?;
+    fn from_fields(scene: Name, fields: &Fields<'_>) -> Result<PlainCommand, Reason> {
         let buffer = fields.needed("buffer")?;
         Ok(PlainCommand { scene, buffer })
     }

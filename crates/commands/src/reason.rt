@@ -1,3 +1,4 @@
+use crate::verb::Verb;
 use job_text::{Name, NameError};
 use std::alloc::{AllocError, AllocFailed};
 use thiserror::Error;
@@ -12,7 +13,7 @@ pub enum Reason {
     #[error("there is no such command")]
     UnknownCommand,
     #[error("this command is not built yet: {0}")]
-    NotBuilt(&'static str),
+    NotBuilt(Verb),
     #[error("a name is missing")]
     MissingName,
     #[error(transparent)]

@@ -1,13 +1,10 @@
-ghost use Rattle.commands.specs.Subject.{BeginsWithName};
-
-use crate::command::{Command, read_name};
+use crate::command::Command;
 use crate::fields::Fields;
 use crate::reason::Reason;
 use crate::values::Number;
 use crate::verb::Verb;
-use job_text::{Line, Name};
+use job_text::Name;
 use records::{Glyph, RunAttributes};
-use std::alloc::Global;
 
 // `run`: adds a run of glyphs.
 #[derive(Drop)]
@@ -16,16 +13,6 @@ pub struct RunCommand {
     pub attributes: RunAttributes,
     pub glyphs: Vec<Glyph>,
 }
-
-const KEYS: [&str; 7] = [
-    "font",
-    "style",
-    "size",
-    "transform",
-    "glyph_transform",
-    "brush_transform",
-    "glyphs",
-];
 
 fn read_attributes(fields: &Fields<'_>) -> Result<RunAttributes, Reason> {
     let Number(font) = fields.needed("font")?;
@@ -43,18 +30,24 @@ fn read_attributes(fields: &Fields<'_>) -> Result<RunAttributes, Reason> {
 impl Command for RunCommand {
     const VERB: Verb = Verb::Run;
 
+    const KEYS: &'static [&'static str] = &[
+        "font",
+        "style",
+        "size",
+        "transform",
+        "glyph_transform",
+        "brush_transform",
+        "glyphs",
+    ];
+
     type Subject = Name;
 
     ghost subject_of = { λ c. c.scene };
 
-    ghost begins_with = { BeginsWithName };
-
-    fn read(heap: Global, line: &mut Line<'_>) -> Result<RunCommand, Reason> {
-        let scene = read_name(line)?;
-        let fields = Fields::read(heap, line, &KEYS)?;
+    fn from_fields(scene: Name, fields: &Fields<'_>) -> Result<RunCommand, Reason> {
         Ok(RunCommand {
             scene,
-            attributes: read_attributes(&fields)?,
+            attributes: read_attributes(fields)?,
             glyphs: fields.needed("glyphs")?,
         })
     }

@@ -1,12 +1,9 @@
-ghost use Rattle.commands.specs.Subject.{BeginsWithName};
-
-use crate::command::{Command, read_name};
+use crate::command::Command;
 use crate::fields::Fields;
 use crate::reason::Reason;
 use crate::verb::Verb;
-use job_text::{Line, Name};
+use job_text::Name;
 use records::Capacities;
-use std::alloc::Global;
 
 // `scene`: makes an empty scene.
 #[derive(Drop)]
@@ -14,19 +11,6 @@ pub struct SceneCommand {
     pub name: Name,
     pub spaces: Capacities,
 }
-
-const KEYS: [&str; 10] = [
-    "path_tags",
-    "path_data",
-    "draw_tags",
-    "draw_data",
-    "transforms",
-    "styles",
-    "patches",
-    "color_stops",
-    "glyphs",
-    "glyph_runs",
-];
 
 const SPACE_IF_UNSAID: u64 = 4096;
 
@@ -41,26 +25,35 @@ fn space(fields: &Fields<'_>, key: &'static str) -> Result<usize, Reason> {
 impl Command for SceneCommand {
     const VERB: Verb = Verb::Scene;
 
+    const KEYS: &'static [&'static str] = &[
+        "path_tags",
+        "path_data",
+        "draw_tags",
+        "draw_data",
+        "transforms",
+        "styles",
+        "patches",
+        "color_stops",
+        "glyphs",
+        "glyph_runs",
+    ];
+
     type Subject = Name;
 
     ghost subject_of = { λ c. c.name };
 
-    ghost begins_with = { BeginsWithName };
-
-    fn read(heap: Global, line: &mut Line<'_>) -> Result<SceneCommand, Reason> {
-        let name = read_name(line)?;
-        let fields = Fields::read(heap, line, &KEYS)?;
+    fn from_fields(name: Name, fields: &Fields<'_>) -> Result<SceneCommand, Reason> {
         let spaces = Capacities {
-            path_tags: space(&fields, "path_tags")?,
-            path_data: space(&fields, "path_data")?,
-            draw_tags: space(&fields, "draw_tags")?,
-            draw_data: space(&fields, "draw_data")?,
-            transforms: space(&fields, "transforms")?,
-            styles: space(&fields, "styles")?,
-            patches: space(&fields, "patches")?,
-            color_stops: space(&fields, "color_stops")?,
-            glyphs: space(&fields, "glyphs")?,
-            glyph_runs: space(&fields, "glyph_runs")?,
+            path_tags: space(fields, "path_tags")?,
+            path_data: space(fields, "path_data")?,
+            draw_tags: space(fields, "draw_tags")?,
+            draw_data: space(fields, "draw_data")?,
+            transforms: space(fields, "transforms")?,
+            styles: space(fields, "styles")?,
+            patches: space(fields, "patches")?,
+            color_stops: space(fields, "color_stops")?,
+            glyphs: space(fields, "glyphs")?,
+            glyph_runs: space(fields, "glyph_runs")?,
         };
         Ok(SceneCommand { name, spaces })
     }

@@ -1,11 +1,8 @@
-ghost use Rattle.commands.specs.Subject.{BeginsWithName};
-
-use crate::command::{Command, read_name};
+use crate::command::Command;
 use crate::fields::Fields;
 use crate::reason::Reason;
 use crate::verb::Verb;
-use job_text::{Line, Name};
-use std::alloc::Global;
+use job_text::Name;
 
 // `show`: prints a scene.
 #[derive(Clone, Copy, Debug, PartialEq, Eq, Drop)]
@@ -16,15 +13,13 @@ pub struct ShowCommand {
 impl Command for ShowCommand {
     const VERB: Verb = Verb::Show;
 
+    const KEYS: &'static [&'static str] = &[];
+
     type Subject = Name;
 
     ghost subject_of = { λ c. c.scene };
 
-    ghost begins_with = { BeginsWithName };
-
-    fn read(heap: Global, line: &mut Line<'_>) -> Result<ShowCommand, Reason> {
-        let scene = read_name(line)?;
-        Fields::read(heap, line, &[])?;
+    fn from_fields(scene: Name, _fields: &Fields<'_>) -> Result<ShowCommand, Reason> {
         Ok(ShowCommand { scene })
     }
 

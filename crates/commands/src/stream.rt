@@ -3,6 +3,7 @@ ghost use Rattle.std.specs.Option.{ok_or};
 ghost use Rattle.commands.specs.Stream.{stream_name, stream_of};
 ghost use Rattle.commands.specs.declared.reason.Reason.TheVariants.{UnknownStream};
 
+use crate::named::{Named, find_named};
 use crate::reason::Reason;
 use std::fmt;
 
@@ -26,10 +27,10 @@ const STREAMS: [Stream; 6] = [
     Stream::Styles,
 ];
 
-impl Stream {
-    pub fn name(self) -> &'static str
-        ensures { result.now ≡ stream_name self }
-    {
+impl Named for Stream {
+    ghost name_of = { stream_name };
+
+    fn name(self) -> &'static str {
         match self {
             Stream::PathTags => "path_tags",
             Stream::PathData => "path_data",
@@ -46,12 +47,9 @@ impl<'a> TryFrom<&'a [u8]> for Stream {
 
     ghost try_from_gives = { λ word r. r ≡ ok_or (stream_of word.now) UnknownStream };
 
+    #[tactic(auto, unfolding(crate::specs::Stream::stream_of))]
     fn try_from(word: &'a [u8]) -> Result<Stream, Reason> {
-        STREAMS
-            .iter()
-            .copied()
-            .find(|stream| stream.name().as_bytes() == word)
-            .ok_or(Reason::UnknownStream)
+        find_named(&STREAMS, word).ok_or(Reason::UnknownStream)
     }
 }
 

@@ -4,6 +4,7 @@ ghost use Rattle.commands.specs.Verb.{verb_name, verb_of, read_verb};
 ghost use Rattle.job_text.specs.Words.{first_word, after_word};
 ghost use Rattle.commands.specs.declared.reason.Reason.TheVariants.{UnknownCommand};
 
+use crate::named::{Named, find_named};
 use crate::reason::Reason;
 use job_text::Line;
 use std::fmt;
@@ -53,9 +54,22 @@ const VERBS: [Verb; 18] = [
 ];
 
 impl Verb {
-    pub fn name(self) -> &'static str
-        ensures { result.now ≡ verb_name self }
+    // The verb of a line; none where the line is passed over.
+    pub fn read(line: &mut Line<'_>) -> Result<Option<Verb>, Reason>
+        ensures value { result ≡ read_verb (first_word line.old.rest.now) }
+        ensures after { line.new.rest.now ≡ after_word line.old.rest.now }
     {
+        match line.next() {
+            Some(word) if word[0] != b'#' => Verb::try_from(word).map(Some),
+            _ => Ok(None),
+        }
+    }
+}
+
+impl Named for Verb {
+    ghost name_of = { verb_name };
+
+    fn name(self) -> &'static str {
         match self {
             Verb::Scene => "scene",
             Verb::Lay => "lay",
@@ -77,17 +91,6 @@ impl Verb {
             Verb::View => "view",
         }
     }
-
-    // The verb of a line; none where the line is passed over.
-    pub fn read(line: &mut Line<'_>) -> Result<Option<Verb>, Reason>
-        ensures value { result ≡ read_verb (first_word line.old.rest.now) }
-        ensures after { line.new.rest.now ≡ after_word line.old.rest.now }
-    {
-        match line.next() {
-            Some(word) if word[0] != b'#' => Verb::try_from(word).map(Some),
-            _ => Ok(None),
-        }
-    }
 }
 
 impl<'a> TryFrom<&'a [u8]> for Verb {
@@ -95,12 +98,9 @@ impl<'a> TryFrom<&'a [u8]> for Verb {
 
     ghost try_from_gives = { λ word r. r ≡ ok_or (verb_of word.now) UnknownCommand };
 
+    #[tactic(auto, unfolding(crate::specs::Verb::verb_of))]
     fn try_from(word: &'a [u8]) -> Result<Verb, Reason> {
-        VERBS
-            .iter()
-            .copied()
-            .find(|verb| verb.name().as_bytes() == word)
-            .ok_or(Reason::UnknownCommand)
+        find_named(&VERBS, word).ok_or(Reason::UnknownCommand)
     }
 }
 

@@ -1,12 +1,8 @@
-ghost use Rattle.commands.specs.Subject.{BeginsWithStream};
-
 use crate::command::Command;
 use crate::fields::Fields;
 use crate::reason::Reason;
 use crate::stream::Stream;
 use crate::verb::Verb;
-use job_text::Line;
-use std::alloc::Global;
 
 // `view`: prints the checksum of a stream of the last page.
 #[derive(Clone, Copy, Debug, PartialEq, Eq, Drop)]
@@ -17,16 +13,13 @@ pub struct ViewCommand {
 impl Command for ViewCommand {
     const VERB: Verb = Verb::View;
 
+    const KEYS: &'static [&'static str] = &[];
+
     type Subject = Stream;
 
     ghost subject_of = { λ c. c.stream };
 
-    ghost begins_with = { BeginsWithStream };
-
-    fn read(heap: Global, line: &mut Line<'_>) -> Result<ViewCommand, Reason> {
-        let word = line.next().ok_or(Reason::MissingName)?;
-        let stream = Stream::try_from(word)?;
-        Fields::read(heap, line, &[])?;
+    fn from_fields(stream: Stream, _fields: &Fields<'_>) -> Result<ViewCommand, Reason> {
         Ok(ViewCommand { stream })
     }
 

@@ -5,7 +5,8 @@ use Rattle.std.proofs.lemmas.Bool.{cond_both}
 use Rattle.draw.specs.declared.color.ColorStop.{ColorStop}
 use Rattle.draw.specs.Ramp.{raised}
 use Rattle.draw.specs.Laws.{Numbers, effective_from, offset_of, effective_of, Largest, NeverFall}
-use Rattle.draw.proofs.Order.{le_of_lt, le_right, le_total, le_refl, le_le}
+use Rattle.std.proofs.lemmas.Float.{le_refl, le_of_lt, le_right, le_trans}
+use Rattle.draw.proofs.Order.{le_total}
 
 raised_one : (e o : Float) → (raised e o ≡ e) ⊎ (raised e o ≡ o)
 raised_one e o = cond_both (lt o e) e o (λ x. (x ≡ e) ⊎ (x ≡ o)) (λ t. inl refl) (λ f. inr refl)
@@ -28,7 +29,7 @@ following e [] j p n h = absurd (omega arith)
 following e (s ∷ ss) zero p n h = raised_past e s.offset p n.0
 following e (s ∷ ss) (suc j) p n h =
     let o = raised e s.offset in
-    le_le e o (get_or (effective_from o ss) j nan) (raised_past e s.offset p n.0) (following o ss j (raised_number e s.offset p n.0) n.1 (omega arith))
+    le_trans e o (get_or (effective_from o ss) j nan) (raised_past e s.offset p n.0) (following o ss j (raised_number e s.offset p n.0) n.1 (omega arith))
 
 above_all : (e : Float) (ss : List ColorStop) (i j : ℕ) → T (not (is_nan e)) → Numbers ss → i ≤ j → j < length ss → T (le (offset_of ss i) (get_or (effective_from e ss) j nan))
 above_all e [] i j p n h l = absurd (omega arith)
@@ -36,7 +37,7 @@ above_all e (s ∷ ss) zero zero p n h l = raised_own e s.offset p n.0
 above_all e (s ∷ ss) (suc i) zero p n h l = absurd (omega arith)
 above_all e (s ∷ ss) zero (suc j) p n h l =
     let o = raised e s.offset in
-    le_le s.offset o (get_or (effective_from o ss) j nan) (raised_own e s.offset p n.0) (following o ss j (raised_number e s.offset p n.0) n.1 (omega arith))
+    le_trans s.offset o (get_or (effective_from o ss) j nan) (raised_own e s.offset p n.0) (following o ss j (raised_number e s.offset p n.0) n.1 (omega arith))
 above_all e (s ∷ ss) (suc i) (suc j) p n h l =
     above_all (raised e s.offset) ss i j (raised_number e s.offset p n.0) n.1 (omega arith) (omega arith)
 

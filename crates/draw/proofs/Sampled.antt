@@ -11,7 +11,8 @@ use Rattle.draw.specs.declared.color.ColorStop.{ColorStop}
 use Rattle.draw.specs.Color.{color_word}
 use Rattle.draw.specs.Ramp.{between, raised, last_shared, walk, transparent, color_at, place, sample_of}
 use Rattle.draw.specs.Laws.{Numbers, effective_from, effective_of, color_of, NoneAfter, BeforeFirst, AtFirst, PastLast, Shared, Inside, Row}
-use Rattle.draw.proofs.Order.{le_of_lt, le_of_eq, ge_of_eq, le_right, not_both, le_total, le_refl, le_lt, le_le, eq_of_le}
+use Rattle.std.proofs.lemmas.Float.{le_refl, le_of_lt, le_of_eq, le_right, le_trans, lt_of_le_of_lt}
+use Rattle.draw.proofs.Order.{ge_of_eq, not_both, le_total, eq_of_le}
 use Rattle.draw.proofs.Effective.{raised_past, raised_number, following}
 
 decide : (b : Bool) → T b ⊎ (T b → ⊥)
@@ -55,7 +56,7 @@ shared_last u e c (s ∷ ss) (suc j) p n h q r f =
     let o = raised e s.offset in
     let x = get_or (offsets o ss) j nan in
     let y = raised_number e s.offset p n.0 in
-    let k : T (eq o u) = eq_of_le o u (le_le o x u (from_first o ss j y n.1 (omega arith)) (le_of_eq x u r)) (le_le u e o (ge_of_eq e u q) (raised_past e s.offset p n.0)) in
+    let k : T (eq o u) = eq_of_le o u (le_trans o x u (from_first o ss j y n.1 (omega arith)) (le_of_eq x u r)) (le_trans u e o (ge_of_eq e u q) (raised_past e s.offset p n.0)) in
     holds (eq o u) _ c k ∙ shared_last u o s.color ss j y n.1 (omega arith) k r (clear_on u e s ss j f)
 
 -- the walk ends at the next stop, which is at u too
@@ -67,7 +68,7 @@ walk_stops u e c s ss j p n l k r f =
     let x = get_or (effective_from o ss) j nan in
     let y = raised_number e s.offset p n.0 in
     let g : T (le u o) = le_total o u y (le_right x u (le_of_eq x u r)) k in
-    let t : T (eq o u) = eq_of_le o u (le_le o x u (following o ss j y n.1 l) (le_of_eq x u r)) g in
+    let t : T (eq o u) = eq_of_le o u (le_trans o x u (following o ss j y n.1 l) (le_of_eq x u r)) g in
     fails (lt o u) _ _ k ∙ shared_last u o _ ss (suc j) y n.1 (omega arith) t r (clear_on u e s ss (suc j) f)
 
 walk_shared : (u e : Float) (c : Color) (ss : List ColorStop) (i j : ℕ) → T (not (is_nan e)) → Numbers ss → i < j → j < length ss
@@ -95,7 +96,7 @@ walk_past u e c [] p n h = refl
 walk_past u e c (s ∷ ss) p n h =
     let o = raised e s.offset in
     let y = raised_number e s.offset p n.0 in
-    let k : T (lt o u) = le_lt o (get_or (offsets o ss) (length ss) nan) u (from_first o ss (length ss) y n.1 (omega arith)) h in
+    let k : T (lt o u) = lt_of_le_of_lt o (get_or (offsets o ss) (length ss) nan) u (from_first o ss (length ss) y n.1 (omega arith)) h in
     holds (lt o u) _ _ k ∙ walk_past u o s.color ss y n.1 h
 
 walk_inside : (u e : Float) (c : Color) (ss : List ColorStop) (j : ℕ) → T (not (is_nan e)) → Numbers ss → j < length ss
@@ -108,7 +109,7 @@ walk_inside u e c (s ∷ ss) zero p n l q r f =
 walk_inside u e c (s ∷ ss) (suc j) p n l q r f =
     let o = raised e s.offset in
     let y = raised_number e s.offset p n.0 in
-    let k : T (lt o u) = le_lt o (get_or (offsets o ss) j nan) u (from_first o ss j y n.1 (omega arith)) q in
+    let k : T (lt o u) = lt_of_le_of_lt o (get_or (offsets o ss) j nan) u (from_first o ss j y n.1 (omega arith)) q in
     holds (lt o u) _ _ k ∙ walk_inside u o s.color ss j y n.1 (omega arith) q r (clear_on u e s ss (suc j) f)
 
 -- ---- the colour at u, by the stops
@@ -123,13 +124,13 @@ raised_beyond u e [] h l = absurd (omega arith)
 raised_beyond u e (s ∷ ss) h l =
     cond_both (lt s.offset e) e s.offset (λ x. T (eq x u) → ⊥)
     (λ t q. not_both u e h (le_of_eq e u q))
-    (λ t q. subst T t (le_lt s.offset u e (le_of_eq s.offset u q) h))
+    (λ t q. subst T t (lt_of_le_of_lt s.offset u e (le_of_eq s.offset u q) h))
 
 color_past : (u : Float) (s : ColorStop) (ss : List ColorStop) → Numbers (s ∷ ss) → T (lt (get_or (offsets s.offset ss) (length ss) nan) u)
     → color_at u (s ∷ ss) ≡ get_or (colors s.color ss) (length ss) transparent
 color_past u s ss n h =
     let o = s.offset in
-    let k : T (lt o u) = le_lt o (get_or (offsets o ss) (length ss) nan) u (from_first o ss (length ss) n.0 n.1 (omega arith)) h in
+    let k : T (lt o u) = lt_of_le_of_lt o (get_or (offsets o ss) (length ss) nan) u (from_first o ss (length ss) n.0 n.1 (omega arith)) h in
     fails (le u o) _ _ (not_both o u k) ∙ walk_past u o s.color ss n.0 n.1 h
 
 color_inside : (u : Float) (s : ColorStop) (ss : List ColorStop) (j : ℕ) → Numbers (s ∷ ss) → j < length ss
@@ -137,7 +138,7 @@ color_inside : (u : Float) (s : ColorStop) (ss : List ColorStop) (j : ℕ) → N
     → color_at u (s ∷ ss) ≡ between u (effective_of (s ∷ ss) j) (color_of (s ∷ ss) j) (effective_of (s ∷ ss) (suc j)) (color_of (s ∷ ss) (suc j))
 color_inside u s ss j n l q r f =
     let o = s.offset in
-    let k : T (lt o u) = le_lt o (get_or (offsets o ss) j nan) u (from_first o ss j n.0 n.1 (omega arith)) q in
+    let k : T (lt o u) = lt_of_le_of_lt o (get_or (offsets o ss) j nan) u (from_first o ss j n.0 n.1 (omega arith)) q in
     fails (le u o) _ _ (not_both o u k) ∙ walk_inside u o s.color ss j n.0 n.1 l q r f
 
 color_shared : (u : Float) (s : ColorStop) (ss : List ColorStop) (i j : ℕ) → Numbers (s ∷ ss) → i ≤ j → j < length ss
@@ -148,7 +149,7 @@ color_shared u s ss i j n h l q r f =
     let x = effective_of (s ∷ ss) (suc j) in
     elim (decide (le u o)) [
       | inl k ↦
-          let t : T (eq o u) = eq_of_le o u (le_le o x u (following o ss j n.0 n.1 l) (le_of_eq x u r)) k in
+          let t : T (eq o u) = eq_of_le o u (le_trans o x u (following o ss j n.0 n.1 l) (le_of_eq x u r)) k in
           holds (le u o) _ _ k ∙ shared_last u o s.color ss (suc j) n.0 n.1 (omega arith) t r f
       | inr k ↦ fails (le u o) _ _ k ∙ on i h q k
     ]

@@ -2,7 +2,7 @@ use crate::words::{bits, channel_byte};
 use std::num::f32_from_bits_with_nan;
 
 // A colour with its alpha apart, each number from 0 to 1.
-#[derive(Clone, Copy, Drop)]
+#[derive(Clone, Copy, Default, Drop)]
 pub struct Color {
     pub r: f32,
     pub g: f32,
@@ -11,14 +11,14 @@ pub struct Color {
 }
 
 // A colour at an offset along a gradient.
-#[derive(Clone, Copy, Drop)]
+#[derive(Clone, Copy, Default, Drop)]
 pub struct ColorStop {
     pub offset: f32,
     pub color: Color,
 }
 
 // A stop bit by bit. Stops are stored so, since all comparisons of them are bitwise.
-#[derive(Clone, Copy, Debug, PartialEq, Eq, Hash)]
+#[derive(Clone, Copy, Debug, Default, PartialEq, Eq, Hash)]
 pub struct StopBits {
     pub offset: u32,
     pub r: u32,

@@ -63,12 +63,7 @@ pub fn color_at(stops: &[ColorStop], u: f32) -> Color
     ensures { result ≡ color_at u stops.now }
 {
     let [first, following @ ..] = stops else {
-        return Color {
-            r: 0.0,
-            g: 0.0,
-            b: 0.0,
-            a: 0.0,
-        };
+        return Color::default();
     };
     if u <= first.offset {
         return last_shared(u, first.offset, following, first.color);

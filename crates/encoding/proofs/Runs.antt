@@ -1,7 +1,7 @@
 -- Lists of runs, one after the other.
 use Rattle.std.proofs.Common.{ℕ, zero, suc, ◌+◌, ◌<◌, ◌≤◌, List, [], ◌∷◌, ◌++◌, map, length, get_or, Option, arith}
 use mathlib.Core.Logic.{∥∥₁_elim}
-use native.Mathlib.Bridge.{le_prop}
+use denote.Struct.Props.{props}
 use Rattle.math.specs.declared.transform.Transform.{Transform}
 use Rattle.records.specs.Moved.{moved_run, past, SmallOffsets, SmallRun}
 use Rattle.records.specs.declared.glyph.GlyphRun.{GlyphRun}
@@ -107,21 +107,10 @@ rises_small e n f (r ∷ rs) he hn l zero d h = record {
 rises_small e n f (r ∷ rs) he hn l (suc k) d h = rises_small e n r.stream_offsets rs he hn l.3 k d (omega arith)
 
 small_offsets_prop : (a : StreamOffsets) → IsProp (SmallOffsets a)
-small_offsets_prop a p q = λ i. record {
-  path_tags = le_prop p.path_tags q.path_tags i;
-  path_data = le_prop p.path_data q.path_data i;
-  draw_tags = le_prop p.draw_tags q.draw_tags i;
-  draw_data = le_prop p.draw_data q.draw_data i;
-  transforms = le_prop p.transforms q.transforms i;
-  styles = le_prop p.styles q.styles i;
-}
+small_offsets_prop a = hlevel props
 
 small_prop : (r : GlyphRun) → IsProp (SmallRun r)
-small_prop r p q = λ i. record {
-  start = le_prop p.start q.start i;
-  end = le_prop p.end q.end i;
-  offsets = small_offsets_prop r.stream_offsets p.offsets q.offsets i;
-}
+small_prop r = hlevel props
 
 pub ends_small : (s : Scene) → Sound s → SmallOffsets (ends s)
 ends_small s h = record {

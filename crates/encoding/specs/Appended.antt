@@ -5,7 +5,7 @@ use Rattle.records.specs.Finite.{given_finite}
 use Rattle.records.specs.Moved.{under, moved_patch, moved_run}
 use Rattle.records.specs.declared.refusal.Refusal.{Refusal}
 use Rattle.records.specs.declared.scene.Counts.{Counts}
-use Rattle.encoding.specs.Scene.{Scene, Room, ends, counts_of}
+use Rattle.encoding.specs.Scene.{Scene, Room, ends, counts_of, streams_spacious, StreamsFit}
 use Rattle.encoding.specs.Answer.{asked}
 
 -- the other's lists after its own, with offsets, ranges and recorded lengths shifted; the other's flags
@@ -31,12 +31,7 @@ appended s o t = record {
 -- every list has space for the other's
 abbrev pub append_spacious : Scene → Room → Scene → Bool
 append_spacious s r o =
-    nat_le (length s.path_tags + length o.path_tags) r.path_tags
-    && nat_le (length s.path_data + length o.path_data) r.path_data
-    && nat_le (length s.draw_tags + length o.draw_tags) r.draw_tags
-    && nat_le (length s.draw_data + length o.draw_data) r.draw_data
-    && nat_le (length s.transforms + length o.transforms) r.transforms
-    && nat_le (length s.styles + length o.styles) r.styles
+    streams_spacious s r (ends o)
     && nat_le (length s.patches + length o.patches) r.patches
     && nat_le (length s.stops + length o.stops) r.stops
     && nat_le (length s.glyphs + length o.glyphs) r.glyphs
@@ -55,12 +50,7 @@ append_refusal s r o t =
 
 -- what a yes of question 3 says of append
 pub record Spacious (s : Scene) (r : Room) (o : Scene) : Type 0 where
-  pub path_tags : length s.path_tags + length o.path_tags ≤ r.path_tags
-  pub path_data : length s.path_data + length o.path_data ≤ r.path_data
-  pub draw_tags : length s.draw_tags + length o.draw_tags ≤ r.draw_tags
-  pub draw_data : length s.draw_data + length o.draw_data ≤ r.draw_data
-  pub transforms : length s.transforms + length o.transforms ≤ r.transforms
-  pub styles : length s.styles + length o.styles ≤ r.styles
+  pub streams : StreamsFit s r (ends o)
   pub patches : length s.patches + length o.patches ≤ r.patches
   pub stops : length s.stops + length o.stops ≤ r.stops
   pub glyphs : length s.glyphs + length o.glyphs ≤ r.glyphs

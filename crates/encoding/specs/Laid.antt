@@ -1,11 +1,12 @@
 -- The scene after lay, and what lay asks.
-use Rattle.std.specs.Prelude.{ℕ, ◌+◌, ◌≤◌, Bool, true, ◌&&◌, ◌++◌, length, Option, nat_le}
+use Rattle.std.specs.Prelude.{ℕ, ◌+◌, Bool, true, ◌++◌, length, Option}
 use Rattle.math.specs.Finite.{all_finite}
 use Rattle.std.specs.List.{list_all}
+use Rattle.records.specs.declared.glyph.StreamOffsets.{StreamOffsets}
 use Rattle.records.specs.declared.refusal.Refusal.{Refusal}
 use Rattle.records.specs.declared.scene.Counts.{Counts}
 use Rattle.records.specs.declared.scene.Streams.{Streams}
-use Rattle.encoding.specs.Scene.{Scene, Room}
+use Rattle.encoding.specs.Scene.{Scene, Room, streams_spacious}
 use Rattle.encoding.specs.Answer.{asked}
 use Rattle.encoding.specs.Appended.{counts_few}
 
@@ -29,23 +30,18 @@ laid s g c flags = record {
   flags = flags;
 }
 
+abbrev pub lengths : Streams → StreamOffsets
+lengths g = record {
+  path_tags = length g.path_tags.now;
+  path_data = length g.path_data.now;
+  draw_tags = length g.draw_tags.now;
+  draw_data = length g.draw_data.now;
+  transforms = length g.transforms.now;
+  styles = length g.styles.now;
+}
+
 abbrev pub lay_spacious : Scene → Room → Streams → Bool
-lay_spacious s r g =
-    nat_le (length s.path_tags + length g.path_tags.now) r.path_tags
-    && nat_le (length s.path_data + length g.path_data.now) r.path_data
-    && nat_le (length s.draw_tags + length g.draw_tags.now) r.draw_tags
-    && nat_le (length s.draw_data + length g.draw_data.now) r.draw_data
-    && nat_le (length s.transforms + length g.transforms.now) r.transforms
-    && nat_le (length s.styles + length g.styles.now) r.styles
+lay_spacious s r g = streams_spacious s r (lengths g)
 
 abbrev pub lay_refusal : Scene → Room → Streams → Counts → Option Refusal
 lay_refusal s r g c = asked (list_all all_finite g.transforms.now) true (lay_spacious s r g) (counts_few s c)
-
--- what a yes of question 3 says of lay
-pub record Lays (s : Scene) (r : Room) (g : Streams) : Type 0 where
-  pub path_tags : length s.path_tags + length g.path_tags.now ≤ r.path_tags
-  pub path_data : length s.path_data + length g.path_data.now ≤ r.path_data
-  pub draw_tags : length s.draw_tags + length g.draw_tags.now ≤ r.draw_tags
-  pub draw_data : length s.draw_data + length g.draw_data.now ≤ r.draw_data
-  pub transforms : length s.transforms + length g.transforms.now ≤ r.transforms
-  pub styles : length s.styles + length g.styles.now ≤ r.styles

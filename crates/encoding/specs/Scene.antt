@@ -1,5 +1,5 @@
 -- The meaning of an encoding: ten lists, four counts and flags; and what room its lists have.
-use Rattle.std.specs.Prelude.{ℕ, ◌≤◌, min, List, [], length}
+use Rattle.std.specs.Prelude.{ℕ, ◌+◌, ◌≤◌, min, Bool, ◌&&◌, List, [], length, nat_le}
 use Rattle.bounded.specs.Held.{items}
 use Rattle.math.specs.declared.transform.Transform.{Transform}
 use Rattle.draw.specs.declared.color.StopBits.{StopBits}
@@ -144,3 +144,21 @@ limited w = record {
 -- the four counts as one record
 abbrev pub counts_of : Scene → Counts
 counts_of s = record { n_paths = s.paths; n_path_segments = s.segments; n_clips = s.clips; n_open_clips = s.open_clips }
+
+-- the six streams have space for so many entries more
+abbrev pub streams_spacious : Scene → Room → StreamOffsets → Bool
+streams_spacious s r more =
+    nat_le (length s.path_tags + more.path_tags) r.path_tags
+    && nat_le (length s.path_data + more.path_data) r.path_data
+    && nat_le (length s.draw_tags + more.draw_tags) r.draw_tags
+    && nat_le (length s.draw_data + more.draw_data) r.draw_data
+    && nat_le (length s.transforms + more.transforms) r.transforms
+    && nat_le (length s.styles + more.styles) r.styles
+
+pub record StreamsFit (s : Scene) (r : Room) (more : StreamOffsets) : Type 0 where
+  pub path_tags : length s.path_tags + more.path_tags ≤ r.path_tags
+  pub path_data : length s.path_data + more.path_data ≤ r.path_data
+  pub draw_tags : length s.draw_tags + more.draw_tags ≤ r.draw_tags
+  pub draw_data : length s.draw_data + more.draw_data ≤ r.draw_data
+  pub transforms : length s.transforms + more.transforms ≤ r.transforms
+  pub styles : length s.styles + more.styles ≤ r.styles

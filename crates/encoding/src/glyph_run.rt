@@ -1,10 +1,18 @@
 ghost use Rattle.std.specs.Prelude.{◌≡◌, length};
+ghost use Rattle.std.specs.List.{list_all};
+ghost use Rattle.records.specs.Finite.{glyph_finite};
 ghost use Rattle.encoding.specs.Scene.{meaning, room};
 ghost use Rattle.encoding.specs.Answer.{Answers};
 ghost use Rattle.encoding.specs.Drawn.{run_added, run_spacious, run_refusal};
 
 use crate::encoding::Encoding;
-use records::{Glyph, GlyphRun, Patch, Refusal, RunAttributes, every};
+use records::{Glyph, GlyphRun, Patch, Refusal, RunAttributes};
+
+fn are_finite(glyphs: &[Glyph]) -> bool
+    ensures { result ≡ list_all glyph_finite glyphs.now }
+{
+    glyphs.iter().all(|g| g.is_finite())
+}
 
 impl Encoding {
     fn has_room_for_run(&self, n: usize) -> bool
@@ -23,7 +31,7 @@ impl Encoding {
     ) -> Result<(), Refusal>
         ensures { Answers self.old (run_refusal (meaning self.old) (room self.old) attributes glyphs.now) (run_added (meaning self.old) attributes glyphs.now) result self.new }
     {
-        if !(attributes.is_finite() && every::<Glyph, records::IsFinite>(glyphs)) {
+        if !(attributes.is_finite() && are_finite(glyphs)) {
             return Err(Refusal::NotFinite);
         }
         if !self.has_room_for_run(glyphs.len()) {

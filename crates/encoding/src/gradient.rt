@@ -1,5 +1,6 @@
 ghost use Rattle.std.specs.Prelude.{◌≡◌, ◌≤◌, true, ◌&&◌, length, nat_le};
 ghost use Rattle.std.specs.List.{list_all};
+ghost use Rattle.records.specs.Finite.{stop_finite};
 ghost use Rattle.records.specs.Unit.{in_unit, stop_in_unit};
 ghost use Rattle.encoding.specs.Scene.{meaning, room};
 ghost use Rattle.encoding.specs.Answer.{Answers, asked};
@@ -8,20 +9,35 @@ ghost use Rattle.encoding.specs.Drawn.{colored, color_spacious, ramped, ramp_spa
 use crate::encoding::Encoding;
 use bounded::extend_mapped;
 use draw::{ColorStop, DrawTag};
-use records::{DrawLinearGradient, Extend, Patch, Refusal, StopFade, every, is_in_unit};
+use records::{
+    DrawLinearGradient, Extend, Patch, Refusal, StopFade, is_in_unit, is_stop_finite,
+    is_stop_in_unit,
+};
 use std::num::f32_to_bits_with_nan;
+
+fn are_finite(color_stops: &[ColorStop]) -> bool
+    ensures { result ≡ list_all stop_finite color_stops.now }
+{
+    color_stops.iter().all(|s| is_stop_finite(s))
+}
+
+fn are_in_unit(color_stops: &[ColorStop]) -> bool
+    ensures { result ≡ list_all stop_in_unit color_stops.now }
+{
+    color_stops.iter().all(|s| is_stop_in_unit(s))
+}
 
 fn is_finite(gradient: &DrawLinearGradient, color_stops: &[ColorStop], alpha: f32) -> bool
     ensures { result ≡ gradient_finite gradient.now color_stops.now alpha }
 {
-    gradient.is_finite() && alpha.is_finite() && every::<ColorStop, records::IsFinite>(color_stops)
+    gradient.is_finite() && alpha.is_finite() && are_finite(color_stops)
 }
 
 fn is_in_range(color_stops: &[ColorStop], alpha: f32) -> bool
     ensures few { result ≡ true → length color_stops.now ≤ 16 }
     ensures value { result ≡ (nat_le (length color_stops.now) 16 && in_unit alpha && list_all stop_in_unit color_stops.now) }
 {
-    color_stops.len() <= 16 && is_in_unit(alpha) && every::<ColorStop, records::InUnit>(color_stops)
+    color_stops.len() <= 16 && is_in_unit(alpha) && are_in_unit(color_stops)
 }
 
 impl Encoding {

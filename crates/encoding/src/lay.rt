@@ -1,33 +1,42 @@
-ghost use Rattle.std.specs.Prelude.{◌≡◌, true};
+ghost use Rattle.std.specs.Prelude.{◌≡◌};
+ghost use Rattle.std.specs.List.{list_all};
+ghost use Rattle.math.specs.Finite.{all_finite};
 ghost use Rattle.encoding.specs.Scene.{meaning, room};
 ghost use Rattle.encoding.specs.Answer.{Answers};
-ghost use Rattle.encoding.specs.Laid.{laid, lay_refusal, lay_spacious, Lays};
+ghost use Rattle.encoding.specs.Laid.{laid, lay_refusal, lengths};
 
 use crate::encoding::Encoding;
 use math::Transform;
-use records::{Counts, Refusal, Streams, every};
+use records::{Counts, Refusal, StreamOffsets, Streams};
+
+fn are_finite(transforms: &[Transform]) -> bool
+    ensures { result ≡ list_all all_finite transforms.now }
+{
+    transforms.iter().all(|t| t.is_finite())
+}
+
+fn lengths(streams: Streams<'_>) -> StreamOffsets
+    ensures { result ≡ lengths streams.entry }
+{
+    StreamOffsets {
+        path_tags: streams.path_tags.len(),
+        path_data: streams.path_data.len(),
+        draw_tags: streams.draw_tags.len(),
+        draw_data: streams.draw_data.len(),
+        transforms: streams.transforms.len(),
+        styles: streams.styles.len(),
+    }
+}
 
 impl Encoding {
-    fn has_room_to_lay(&self, streams: Streams<'_>) -> bool
-        ensures value { result ≡ lay_spacious (meaning self.now) (room self.now) streams.entry }
-        ensures each { result ≡ true → Lays (meaning self.now) (room self.now) streams.entry }
-    {
-        self.path_tags.has_room(streams.path_tags.len())
-            && self.path_data.has_room(streams.path_data.len())
-            && self.draw_tags.has_room(streams.draw_tags.len())
-            && self.draw_data.has_room(streams.draw_data.len())
-            && self.transforms.has_room(streams.transforms.len())
-            && self.styles.has_room(streams.styles.len())
-    }
-
     // Adds entries to the six streams, adds to the counts and sets the flags.
     pub fn lay(&mut self, streams: Streams<'_>, counts: Counts, flags: u32) -> Result<(), Refusal>
         ensures { Answers self.old (lay_refusal (meaning self.old) (room self.old) streams.entry counts) (laid (meaning self.old) streams.entry counts flags) result self.new }
     {
-        if !every::<Transform, records::IsFinite>(streams.transforms) {
+        if !are_finite(streams.transforms) {
             return Err(Refusal::NotFinite);
         }
-        if !self.has_room_to_lay(streams) {
+        if !self.has_room_for_streams(lengths(streams)) {
             return Err(Refusal::Full);
         }
         if !self.counts_stay_few(counts) {

@@ -66,9 +66,7 @@ impl Encoding {
     {
         self.resources.glyph_runs.as_slice()
     }
-}
 
-impl Encoding {
     pub fn counts(&self) -> Counts
         ensures { result ≡ counts_of (meaning self.now) }
     {

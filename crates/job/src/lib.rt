@@ -16,7 +16,6 @@ pub use failure::{Failure, Refused};
 pub use lines::Lines;
 pub use outcome::Outcome;
 pub use packed::Packed;
-pub use run::Run;
 pub use runner::{Fault, Runner};
 pub use session::Session;
 pub use shown::Shown;

@@ -1,21 +1,15 @@
-ghost use Rattle.std.specs.Prelude.{◌≡◌, drop};
+ghost use Rattle.std.specs.Prelude.{◌≡◌};
 ghost use Rattle.std.specs.Iterator.{YieldsFirstRef, item_count};
 ghost use Rattle.job.specs.Lines.{lines, left};
 ghost use Rattle.job_text.specs.Words.{without_return};
 
-use job_text::up_to;
+use job_text::cut;
 
 // The lines of a text that are still to come. A line ends at a line feed, which the last may lack, and a
 // carriage return before it is dropped.
 #[derive(Drop)]
 pub struct Lines<'a> {
     rest: &'a [u8],
-}
-
-fn past_first(text: &[u8]) -> &[u8]
-    ensures { result.now ≡ drop 1 text.now }
-{
-    text.split_first().map_or(text, |(_, rest)| rest)
 }
 
 fn without_return(line: &[u8]) -> &[u8]
@@ -47,8 +41,8 @@ impl<'a> Iterator for Lines<'a> {
         if text.is_empty() {
             return None;
         }
-        let (line, end) = text.split_at(up_to(b'\n', text));
-        self.rest = past_first(end);
+        let (line, rest) = cut(b'\n', text);
+        self.rest = rest.unwrap_or(&[]);
         Some(without_return(line))
     }
 }

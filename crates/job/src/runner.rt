@@ -1,3 +1,6 @@
+ghost use Rattle.std.specs.Prelude.{◌≡◌, IfErr};
+ghost use Rattle.job.specs.Runner.{line_number, next_number};
+
 use crate::failure::Failure;
 use crate::run::Run;
 use crate::session::Session;
@@ -25,20 +28,27 @@ pub struct Fault {
 // Runs the lines of a job.
 #[derive(Drop)]
 pub struct Runner {
+    heap: Global,
     line: usize,
     session: Session,
 }
 
 impl Runner {
-    pub fn new(heap: Global) -> Runner {
+    pub fn new(heap: Global) -> Runner
+        ensures { line_number result ≡ 0 }
+    {
         Runner {
+            heap,
             line: 0,
             session: Session::new(heap),
         }
     }
 
     // Runs the next line and puts what it prints at the end of `out`.
-    pub fn run_line(&mut self, line: &[u8], out: &mut String) -> Result<(), Fault> {
+    pub fn run_line(&mut self, line: &[u8], out: &mut String) -> Result<(), Fault>
+        ensures counted { line_number self.new ≡ next_number (line_number self.old) }
+        ensures named { IfErr result (λ fault. fault.line ≡ line_number self.new) }
+    {
         self.line = self.line.saturating_add(1);
         self.answer_line(line, out).map_err(|reason| Fault {
             line: self.line,
@@ -46,7 +56,9 @@ impl Runner {
         })
     }
 
-    fn answer_line(&mut self, line: &[u8], out: &mut String) -> Result<(), Reason> {
+    fn answer_line(&mut self, line: &[u8], out: &mut String) -> Result<(), Reason>
+        ensures { line_number self.new ≡ line_number self.old }
+    {
         if self.line > MOST_LINES {
             return Err(Reason::TooManyLines);
         }
@@ -67,12 +79,14 @@ impl Runner {
             Verb::Show => self.run::<ShowCommand>(line, out),
             Verb::Plain => self.run::<PlainCommand>(line, out),
             Verb::View => self.run::<ViewCommand>(line, out),
-            _ => Err(Reason::NotBuilt(verb.name())),
+            _ => Err(Reason::NotBuilt(verb)),
         }
     }
 
-    fn run<C: Run + Drop>(&mut self, line: &mut Line<'_>, out: &mut String) -> Result<(), Reason> {
-        let command = C::read(self.session.heap, line)?;
+    fn run<C: Run + Drop>(&mut self, line: &mut Line<'_>, out: &mut String) -> Result<(), Reason>
+        ensures { line_number self.new ≡ line_number self.old }
+    {
+        let command = C::read(self.heap, line)?;
         let number = self.line;
         let verb = C::VERB;
         let subject = command.subject();

@@ -12,7 +12,7 @@ pub struct Summary {
     pub crc: u32,
 }
 
-// An entry that a checksum is fed with.
+// An entry that a checksum is fed with. Not byte_writers' `Entry`: that needs a buffer as wide as an entry.
 pub(crate) trait Summed {
     fn feed(&self, crc: &mut Crc32);
 }

@@ -1,10 +1,10 @@
 -- The words of a line, which are apart by spaces, and the parts of a word.
-use Rattle.std.specs.Prelude.{ℕ, ◌-◌, cond, not, List, [], ◌∷◌, length, take, drop, Some, None, Option, ◌==◌, nat_eq, slice_index}
+use Rattle.std.specs.Prelude.{ℕ, ◌-◌, cond, not, List, [], ◌∷◌, length, take, drop, Some, None, Option, ◌==◌, slice_index}
 use Rattle.std.specs.List.{prefix_len}
 
 -- how often a byte stands at the front, and how much stands before its first place
 abbrev pub run_of : ℕ → List ℕ → ℕ
-run_of byte text = prefix_len (λ b. nat_eq b byte) text
+run_of byte text = prefix_len (λ b. b == byte) text
 
 abbrev pub up_to : ℕ → List ℕ → ℕ
 up_to byte text = prefix_len (λ b. not (b == byte)) text

@@ -11,7 +11,7 @@ mod name;
 mod numerals;
 mod parts;
 
-pub use finds::up_to;
+pub use finds::{cut, up_to};
 pub use flaw::Flaw;
 pub use floats::float;
 pub use hexadecimal::hex_bytes;

@@ -4,7 +4,7 @@ ghost use Rattle.std.specs.Iterator.{at_most};
 use crate::finds::{run_of, up_to};
 
 // What is left to read of a line, whose words are apart by spaces.
-#[derive(Drop)]
+#[derive(Clone, Copy, Drop)]
 pub struct Line<'a> {
     rest: &'a [u8],
 }

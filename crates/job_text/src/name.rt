@@ -5,7 +5,7 @@ use std::fmt;
 use thiserror::Error;
 
 // A name, with zeros after it. No name has a zero, so names are in byte order.
-// Tried as an `ArrayString<32>`: an error that holds one beside a `&'static str` gets no generated proof.
+// No `ArrayString<32>`: an error that holds one beside a `&'static str` gets no generated proof.
 #[derive(Clone, Copy, Debug, PartialEq, Eq, PartialOrd, Ord, Drop)]
 pub struct Name {
     bytes: [u8; 32],

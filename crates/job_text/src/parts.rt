@@ -1,10 +1,9 @@
 ghost use Rattle.std.specs.Prelude.{◌≡◌};
-ghost use Rattle.std.specs.Option.{option_map};
 ghost use Rattle.std.specs.Iterator.{YieldsFirstRef, item_count};
-ghost use Rattle.job_text.specs.Words.{parts_of, past_first};
+ghost use Rattle.job_text.specs.Words.{parts_of};
 ghost use Rattle.job_text.specs.Parts.{left};
 
-use crate::finds::up_to;
+use crate::finds::cut;
 
 // The parts of a text that are still to come, with a byte between them.
 // std's `split` gives the same parts, but a loop over it in a generic function stops the check.
@@ -12,13 +11,6 @@ use crate::finds::up_to;
 pub struct Parts<'a> {
     between: u8,
     rest: Option<&'a [u8]>,
-}
-
-// What follows the first byte, if there is one.
-fn past_first(text: &[u8]) -> Option<&[u8]>
-    ensures { option_map (λ x. x.now) result ≡ past_first text.now }
-{
-    text.split_first().map(|(_, rest)| rest)
 }
 
 impl<'a> Parts<'a> {
@@ -41,8 +33,8 @@ impl<'a> Iterator for Parts<'a> {
 
     fn next(&mut self) -> Option<&'a [u8]> {
         let text = self.rest?;
-        let (part, more) = text.split_at(up_to(self.between, text));
-        self.rest = past_first(more);
+        let (part, rest) = cut(self.between, text);
+        self.rest = rest;
         Some(part)
     }
 }

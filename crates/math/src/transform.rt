@@ -28,12 +28,7 @@ impl Transform {
     pub fn is_finite(&self) -> bool
         ensures { result ≡ all_finite self.now }
     {
-        self.matrix[0].is_finite()
-            && self.matrix[1].is_finite()
-            && self.matrix[2].is_finite()
-            && self.matrix[3].is_finite()
-            && self.translation[0].is_finite()
-            && self.translation[1].is_finite()
+        self.matrix.iter().all(|x| x.is_finite()) && self.translation.iter().all(|x| x.is_finite())
     }
 }
 
@@ -44,9 +39,9 @@ impl Mul for Transform {
 
     type Output = Transform;
 
-    fn mul(self, other: Transform) -> Transform
-        ensures { result ≡ times self other }
-    {
+    ghost mul_gives = { λ s o r. r ≡ times s o };
+
+    fn mul(self, other: Transform) -> Transform {
         Transform {
             matrix: [
                 self.matrix[0] * other.matrix[0] + self.matrix[2] * other.matrix[1],

@@ -3,7 +3,6 @@ pub mod Layout
 pub mod Pack
 pub mod Nothing
 pub mod Plain
-pub mod Viewed
 pub mod Parts
 pub mod Opened
 pub mod Laws

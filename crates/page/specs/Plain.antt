@@ -14,10 +14,10 @@ use Rattle.page.specs.declared.refusal.PackRefusal.TheVariants.{LateBound, TooLo
 -- the number of the question that a refusal answers with no, and its values: 13 has the length needed
 abbrev pub question_of : PackRefusal → ℕ × List ℕ
 question_of LateBound = (5, [])
-question_of (Long needed) = (13, needed ∷ [])
+question_of (Long q) = (13, q.needed ∷ [])
 
 abbrev pub refusal_of : TooLong → PackRefusal
-refusal_of q = Long q.needed
+refusal_of q = Long q
 
 abbrev pub plain_page : Scene → List ℕ
 plain_page s = page_of no_supply no_late s

@@ -1,10 +1,12 @@
 ghost use Rattle.std.specs.Prelude.{◌≡◌, ◌^◌, ◌<◌, ◌≤◌, length, sum_by};
 ghost use Rattle.draw.specs.Tags.{info_size};
+ghost use Rattle.streams.specs.Count.{AtMost};
+ghost use Rattle.encoding.specs.Scene.{meaning};
 ghost use Rattle.page.specs.Layout.{sizes_with, buffer_size, layout_with};
-ghost use Rattle.page.specs.Viewed.{viewed};
 
-use crate::view::SceneView;
 use draw::DrawTag;
+use encoding::Encoding;
+use streams::Inserted;
 
 // How many bytes each stream of a page has.
 #[derive(Clone, Copy, Debug)]
@@ -18,19 +20,20 @@ pub(crate) struct SceneBufferSizes {
 }
 
 impl SceneBufferSizes {
-    pub(crate) fn new(scene: SceneView<'_>) -> SceneBufferSizes
-        ensures value { result ≡ sizes_with scene.entry.inserted (viewed scene.entry) }
+    pub(crate) fn new(encoding: &Encoding, inserted: Inserted) -> SceneBufferSizes
+        requires { AtMost 1000000 65537000002000000 inserted }
+        ensures value { result ≡ sizes_with inserted (meaning encoding.now) }
         ensures small { buffer_size result < 2 ^ 64 }
     {
-        let open = scene.counts.n_open_clips as u64;
-        let tags = scene.path_tags.len() as u64 + scene.inserted.path_tags + open;
+        let open = encoding.counts().n_open_clips as u64;
+        let tags = encoding.path_tags().len() as u64 + inserted.path_tags + open;
         SceneBufferSizes {
             path_tag_padded: tags.next_multiple_of(1024),
-            path_data: 4 * (scene.path_data.len() as u64 + scene.inserted.path_data),
-            draw_tags: 4 * (scene.draw_tags.len() as u64 + open),
-            draw_data: 4 * scene.draw_data.len() as u64,
-            transforms: 24 * (scene.transforms.len() as u64 + scene.inserted.transforms),
-            styles: 8 * (scene.styles.len() as u64 + scene.inserted.styles),
+            path_data: 4 * (encoding.path_data().len() as u64 + inserted.path_data),
+            draw_tags: 4 * (encoding.draw_tags().len() as u64 + open),
+            draw_data: 4 * encoding.draw_data().len() as u64,
+            transforms: 24 * (encoding.transforms().len() as u64 + inserted.transforms),
+            styles: 8 * (encoding.styles().len() as u64 + inserted.styles),
         }
     }
 
@@ -73,11 +76,13 @@ pub struct Layout {
 }
 
 impl Layout {
-    pub(crate) fn new(scene: SceneView<'_>, sizes: SceneBufferSizes) -> Layout
-        requires { buffer_size sizes ≤ 1073741824 }
-        ensures { result ≡ layout_with scene.entry.inserted (viewed scene.entry) sizes }
+    pub(crate) fn new(encoding: &Encoding, inserted: Inserted, sizes: SceneBufferSizes) -> Layout
+        requires few { AtMost 1000000 65537000002000000 inserted }
+        requires short { buffer_size sizes ≤ 1073741824 }
+        ensures { result ≡ layout_with inserted (meaning encoding.now) sizes }
     {
-        let n_paths = scene.counts.n_paths + scene.inserted.runs + scene.counts.n_open_clips;
+        let counts = encoding.counts();
+        let n_paths = counts.n_paths + inserted.runs + counts.n_open_clips;
         let path_data = sizes.path_tag_padded;
         let draw_tags = path_data + sizes.path_data;
         let draw_data = draw_tags + sizes.draw_tags;
@@ -86,8 +91,8 @@ impl Layout {
         Layout {
             n_draw_objects: n_paths,
             n_paths,
-            n_clips: scene.counts.n_clips + scene.counts.n_open_clips,
-            bin_data_start: bin_data_start(scene.draw_tags),
+            n_clips: counts.n_clips + counts.n_open_clips,
+            bin_data_start: bin_data_start(encoding.draw_tags()),
             path_tag_base: 0,
             path_data_base: (path_data / 4) as u32,
             draw_tag_base: (draw_tags / 4) as u32,

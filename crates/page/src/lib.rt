@@ -9,7 +9,7 @@ mod pack;
 mod plain;
 mod reader;
 mod refusal;
-mod view;
+mod runs;
 mod writers;
 
 pub use examples::worked_pages;

@@ -1,5 +1,6 @@
 ghost use Rattle.page.specs.Nothing.{no_supply, no_late};
 
+use arrayvec::ArrayVec;
 use streams::LateWords;
 use supply::{GlyphSupply, Outline, SessionKey};
 
@@ -26,7 +27,7 @@ pub(crate) struct NoLate;
 impl LateWords for NoLate {
     ghost late = { λ _. no_late };
 
-    fn words(&self, _patch: usize) -> &[u32] {
-        &[]
+    fn words(&self, _patch: usize) -> ArrayVec<u32, 2> {
+        ArrayVec::new()
     }
 }

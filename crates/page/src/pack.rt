@@ -5,10 +5,10 @@ ghost use Rattle.page.specs.Pack.{pack_answer, pack_buffer};
 
 use crate::layout::{Layout, SceneBufferSizes};
 use crate::refusal::TooLong;
-use crate::view::SceneView;
+use crate::runs::glyph_runs;
 use crate::writers::put_page;
 use encoding::Encoding;
-use streams::LateWords;
+use streams::{LateWords, count_inserted};
 use supply::GlyphSupply;
 
 // The longest page.
@@ -25,12 +25,12 @@ pub fn pack_page<G: GlyphSupply, L: LateWords>(
     ensures answer { result ≡ pack_answer (G.GlyphSupply.meaning supply.now) (meaning encoding.now) (length packed.old) }
     ensures bytes { packed.new ≡ pack_buffer (G.GlyphSupply.meaning supply.now) (L.LateWords.late late.now) (meaning encoding.now) packed.old }
 {
-    let scene = SceneView::new(encoding, supply);
-    let sizes = SceneBufferSizes::new(scene);
+    let inserted = count_inserted(supply, glyph_runs(encoding));
+    let sizes = SceneBufferSizes::new(encoding, inserted);
     let needed = sizes.buffer_size();
     if needed > MAX_LENGTH || needed > packed.len() as u64 {
         return Err(TooLong { needed });
     }
-    let length = put_page(supply, late, scene, packed);
-    Ok((Layout::new(scene, sizes), length))
+    let length = put_page(supply, late, encoding, packed);
+    Ok((Layout::new(encoding, inserted, sizes), length))
 }

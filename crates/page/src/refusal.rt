@@ -16,16 +16,15 @@ pub struct TooLong {
 pub enum PackRefusal {
     #[error("the scene has something that is bound late")]
     LateBound,
-    // the page is longer than any page may be, or than the buffer
-    #[error("the page needs {needed} bytes")]
-    TooLong { needed: u64 },
+    #[error(transparent)]
+    TooLong(TooLong),
 }
 
 impl From<TooLong> for PackRefusal {
     ghost from_gives = { λ q r. r ≡ refusal_of q };
 
     fn from(q: TooLong) -> PackRefusal {
-        PackRefusal::TooLong { needed: q.needed }
+        PackRefusal::TooLong(q)
     }
 }
 
@@ -36,7 +35,7 @@ impl From<PackRefusal> for u32 {
     fn from(q: PackRefusal) -> u32 {
         match q {
             PackRefusal::LateBound => 5,
-            PackRefusal::TooLong { .. } => 13,
+            PackRefusal::TooLong(_) => 13,
         }
     }
 }

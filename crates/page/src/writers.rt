@@ -1,51 +1,61 @@
-ghost use Rattle.std.specs.Prelude.{◌+◌, ◌*◌, ◌≤◌, ◌++◌, length, replicate};
+ghost use Rattle.std.specs.Prelude.{◌≡◌, ◌+◌, ◌*◌, ◌≤◌, ◌++◌, length, replicate};
 ghost use Rattle.byte_writers.specs.Bytes.{words_bytes};
 ghost use Rattle.byte_writers.specs.Put.{Put};
+ghost use Rattle.byte_writers.specs.Wrote.{Wrote};
 ghost use Rattle.streams.specs.Draw.{Owned};
+ghost use Rattle.encoding.specs.Scene.{meaning};
 ghost use Rattle.page.specs.Page.{path_tag_stream, page_of};
 ghost use Rattle.page.specs.Layout.{inserted_by, sizes_with, page_length};
-ghost use Rattle.page.specs.Viewed.{viewed};
 
-use crate::view::SceneView;
-use byte_writers::{put_all, put_repeated};
+use crate::runs::glyph_runs;
+use byte_writers::Writer;
 use draw::{DrawTag, PathTag};
+use encoding::Encoding;
 use streams::{LateWords, PathData, PathTags, Styles, Transforms, put_draw_data, put_stream};
 use supply::GlyphSupply;
 
 // The path tags, a path for each open clip, and the padding.
-fn put_path_tags<G: GlyphSupply>(supply: &G, scene: SceneView<'_>, out: &mut [u8]) -> usize
-    requires { (sizes_with (inserted_by (G.GlyphSupply.meaning supply.now) (viewed scene)) (viewed scene)).path_tag_padded ≤ length out.old }
-    ensures { Put out.old 0 (path_tag_stream (G.GlyphSupply.meaning supply.now) (viewed scene.entry)) result out.new }
+fn put_path_tags<G: GlyphSupply>(supply: &G, encoding: &Encoding, writer: &mut Writer<'_>)
+    requires start { writer.old.at ≡ 0 }
+    requires space { (sizes_with (inserted_by (G.GlyphSupply.meaning supply.now) (meaning encoding.now)) (meaning encoding.now)).path_tag_padded ≤ length writer.old.out.now }
+    ensures { Wrote writer.old (path_tag_stream (G.GlyphSupply.meaning supply.now) (meaning encoding.now)) writer.new }
 {
-    let end = put_stream::<PathTags, G>(supply, out, 0, scene.path_tags, scene.runs);
-    let closed = put_repeated(out, end, scene.counts.n_open_clips as usize, PathTag::PATH);
-    put_repeated(out, closed, closed.next_multiple_of(1024) - closed, 0u8)
+    let runs = glyph_runs(encoding);
+    put_stream::<PathTags, G>(supply, writer, encoding.path_tags(), runs);
+    let open_clips = encoding.counts().n_open_clips as usize;
+    writer.put_repeated(open_clips, PathTag::PATH);
+    let closed = writer.at();
+    writer.put_repeated(closed.next_multiple_of(1024) - closed, 0u8);
 }
 
 // The draw tags, and an end for each open clip.
-fn put_draw_tags(out: &mut [u8], at: usize, draw_tags: &[u32], open_clips: u32) -> usize
-    requires { at + 4 * (length draw_tags.now + open_clips) ≤ length out.old }
-    ensures { Put out.old at (words_bytes (draw_tags.now ++ replicate open_clips 0x21)) result out.new }
+fn put_draw_tags(writer: &mut Writer<'_>, draw_tags: &[u32], open_clips: u32)
+    requires { writer.old.at + 4 * (length draw_tags.now + open_clips) ≤ length writer.old.out.now }
+    ensures { Wrote writer.old (words_bytes (draw_tags.now ++ replicate open_clips 0x21)) writer.new }
 {
-    let end = put_all(out, at, draw_tags);
-    put_repeated(out, end, open_clips as usize, DrawTag::END_CLIP)
+    writer.put_all(draw_tags);
+    writer.put_repeated(open_clips as usize, DrawTag::END_CLIP);
 }
 
 // The six streams, one after the other.
 pub(crate) fn put_page<G: GlyphSupply, L: LateWords>(
     supply: &G,
     late: &L,
-    scene: SceneView<'_>,
+    encoding: &Encoding,
     out: &mut [u8],
 ) -> usize
-    requires owned { Owned (L.LateWords.late late.now) 0 (viewed scene).patches }
-    requires space { page_length (G.GlyphSupply.meaning supply.now) (viewed scene) ≤ length out.old }
-    ensures { Put out.old 0 (page_of (G.GlyphSupply.meaning supply.now) (L.LateWords.late late.now) (viewed scene.entry)) result out.new }
+    requires owned { Owned (L.LateWords.late late.now) 0 (meaning encoding.now).patches }
+    requires space { page_length (G.GlyphSupply.meaning supply.now) (meaning encoding.now) ≤ length out.old }
+    ensures { Put out.old 0 (page_of (G.GlyphSupply.meaning supply.now) (L.LateWords.late late.now) (meaning encoding.now)) result out.new }
 {
-    let path_data = put_path_tags(supply, scene, out);
-    let draw_tags = put_stream::<PathData, G>(supply, out, path_data, scene.path_data, scene.runs);
-    let draw_data = put_draw_tags(out, draw_tags, scene.draw_tags, scene.counts.n_open_clips);
-    let transforms = put_draw_data(late, out, draw_data, scene.draw_data, scene.patches);
-    let styles = put_stream::<Transforms, G>(supply, out, transforms, scene.transforms, scene.runs);
-    put_stream::<Styles, G>(supply, out, styles, scene.styles, scene.runs)
+    let runs = glyph_runs(encoding);
+    let open_clips = encoding.counts().n_open_clips;
+    let mut writer = Writer::new(out, 0);
+    put_path_tags(supply, encoding, &mut writer);
+    put_stream::<PathData, G>(supply, &mut writer, encoding.path_data(), runs);
+    put_draw_tags(&mut writer, encoding.draw_tags(), open_clips);
+    put_draw_data(late, &mut writer, encoding.draw_data(), encoding.patches());
+    put_stream::<Transforms, G>(supply, &mut writer, encoding.transforms(), runs);
+    put_stream::<Styles, G>(supply, &mut writer, encoding.styles(), runs);
+    writer.at()
 }

@@ -5,7 +5,7 @@ use Rattle.std.proofs.lemmas.Bool.{lt-ltb}
 use Rattle.std.proofs.lemmas.List.{map-set, map-append, length-map}
 use Rattle.draw.specs.declared.color.StopBits.{StopBits}
 use Rattle.ramps.specs.declared.fault.RampFault.TheVariants.{Full}
-use Rattle.ramps.specs.declared.row.Row.{Row}
+use Rattle.ramps.specs.declared.rows.Row.{Row}
 use Rattle.ramps.specs.declared.rows.Rows.{Rows}
 use Rattle.ramps.specs.Laws.{Sound}
 use Rattle.ramps.specs.Rows.{used_on, row_with, rewritable, put_at, added}

@@ -1,6 +1,6 @@
 -- The rows that are in use.
 use Rattle.std.specs.Prelude.{List, map}
-use Rattle.ramps.specs.FixedVec.{items_of}
+use Rattle.fixed_vec.specs.Items.{items_of}
 use Rattle.ramps.specs.Rows.{RampRow}
 use Rattle.ramps.specs.View.{row_of}
 use Rattle.ramps.specs.declared.rows.Rows.{Rows}

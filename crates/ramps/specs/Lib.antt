@@ -1,7 +1,6 @@
 pub mod Keys
 pub mod Rows
 pub mod Fault
-pub mod FixedVec
 pub mod View
 pub mod Held
 pub mod Sheet

@@ -1,5 +1,5 @@
 -- How the gradients of a page find their rows.
-use Rattle.std.specs.Prelude.{ℕ, ◌+◌, ◌≤◌, Bool, if◌then◌else◌, List, [], ◌∷◌, ◌++◌, length, take, Some, None, Ok, Err, Option, Result, nat_le, nat_lt, slice_set}
+use Rattle.std.specs.Prelude.{ℕ, ◌+◌, ◌≤◌, Bool, cond, List, [], ◌∷◌, ◌++◌, length, take, Some, None, Ok, Err, Option, Result, nat_le, nat_lt, slice_set}
 use Rattle.std.specs.List.{between, position}
 use Rattle.std.specs.Option.{option_or}
 use Rattle.draw.specs.declared.color.StopBits.{StopBits}
@@ -33,7 +33,7 @@ row_with k rs = position (has_key k) rs
 
 -- the row that page p may rewrite: with 64 rows or more, the lowest stale one
 abbrev pub rewritable : ℕ → List RampRow → Option ℕ
-rewritable p rs = if nat_le 64 (length rs) then position (is_stale p) rs else None
+rewritable p rs = cond (nat_le 64 (length rs)) (position (is_stale p) rs) None
 
 -- the rows after a step, or the fault
 abbrev pub Chosen : Type 0
@@ -41,7 +41,7 @@ Chosen = Result (List RampRow) RampFault
 
 -- a row behind the others, if there are fewer than 96
 abbrev pub pushed : ℕ → ℕ → List StopBits → List RampRow → Chosen
-pushed p n k rs = if nat_lt (length rs) 96 then Ok (rs ++ used_on p k ∷ []) else Err (Full n)
+pushed p n k rs = cond (nat_lt (length rs) 96) (Ok (rs ++ used_on p k ∷ [])) (Err (Full n))
 
 -- the key in the row that is named, which may have it already, or in a new row
 abbrev pub put_at : ℕ → ℕ → List StopBits → List RampRow → Option ℕ → Chosen

@@ -1,10 +1,10 @@
 -- What a key and a row hold.
 use Rattle.std.specs.Prelude.{List}
 use Rattle.draw.specs.declared.color.StopBits.{StopBits}
-use Rattle.ramps.specs.FixedVec.{items_of}
+use Rattle.fixed_vec.specs.Items.{items_of}
 use Rattle.ramps.specs.Rows.{RampRow, used_on}
 use Rattle.ramps.specs.declared.key.Key.{Key}
-use Rattle.ramps.specs.declared.row.Row.{Row}
+use Rattle.ramps.specs.declared.rows.Row.{Row}
 
 abbrev pub key_of : Key → List StopBits
 key_of k = items_of k.stops

@@ -1,17 +1,17 @@
 ghost use Rattle.std.specs.Prelude.{◌≡◌, ◌≤◌, map, length};
 ghost use Rattle.draw.specs.Color.{stop_of};
 
-use crate::fixed_vec::FixedVec;
-use draw::{Color, ColorStop, N_SAMPLES, StopBits, write_row};
+use draw::{ColorStop, N_SAMPLES, StopBits, write_row};
+use fixed_vec::FixedVec;
 
 // The stops of a gradient, at most 16.
-#[derive(Clone, Copy)]
+#[derive(Clone, Copy, Default)]
 pub(crate) struct Key {
     stops: FixedVec<StopBits, 16>,
 }
 
 impl Key {
-    ghost use Rattle.ramps.specs.FixedVec.{items_of};
+    ghost use Rattle.fixed_vec.specs.Items.{items_of};
     ghost use Rattle.ramps.specs.Sheet.{samples_of};
     ghost use Rattle.ramps.specs.View.{key_of};
 
@@ -19,13 +19,7 @@ impl Key {
         requires { length stops.now ≤ 16 }
         ensures { key_of result ≡ stops.now }
     {
-        let mut key = FixedVec::new(StopBits {
-            offset: 0,
-            r: 0,
-            g: 0,
-            b: 0,
-            a: 0,
-        });
+        let mut key = FixedVec::new();
         for stop in stops {
             key.push(*stop);
         }
@@ -52,15 +46,7 @@ impl Key {
     fn to_stops(&self) -> FixedVec<ColorStop, 16>
         ensures { items_of result ≡ map stop_of (key_of self.now) }
     {
-        let mut stops = FixedVec::new(ColorStop {
-            offset: 0.0,
-            color: Color {
-                r: 0.0,
-                g: 0.0,
-                b: 0.0,
-                a: 0.0,
-            },
-        });
+        let mut stops = FixedVec::new();
         for stop in self.as_slice() {
             stops.push(ColorStop::from(*stop));
         }

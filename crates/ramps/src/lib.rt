@@ -2,10 +2,8 @@
 #![tactic(auto)]
 
 mod fault;
-mod fixed_vec;
 mod key;
 mod ramp_cache;
-mod row;
 mod rows;
 
 pub use fault::RampFault;

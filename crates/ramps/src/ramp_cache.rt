@@ -24,6 +24,7 @@ pub struct Ramps<'a> {
 }
 
 // The rows from page to page, with their samples, which are computed only where a row gets another key.
+// Two lists side by side: `ramps` hands out the samples of all rows as one slice.
 #[derive(Drop)]
 pub struct RampCache {
     rows: Rows,

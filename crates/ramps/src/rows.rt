@@ -1,21 +1,28 @@
 ghost use Rattle.std.specs.Prelude.{◌≡◌, ◌<◌, ◌≤◌, ◌&&◌, [], map, length, nat_lt, IfSome, slice_index_or};
 ghost use Rattle.std.specs.List.{All};
 ghost use Rattle.std.specs.Option.{option_or};
-ghost use Rattle.ramps.specs.FixedVec.{items_of};
+ghost use Rattle.fixed_vec.specs.Items.{items_of};
 ghost use Rattle.ramps.specs.Laws.{Distinct};
 ghost use Rattle.ramps.specs.View.{row_of};
 
 use crate::fault::RampFault;
-use crate::fixed_vec::FixedVec;
 use crate::key::Key;
-use crate::row::Row;
 use draw::StopBits;
+use fixed_vec::FixedVec;
 use records::Patch;
 
 // Rows up to here are retained from page to page.
 const RETAINED_COUNT: usize = 64;
 
 pub(crate) const MAX_COUNT: usize = 96;
+
+// A gradient's row.
+#[derive(Clone, Copy, Default)]
+pub(crate) struct Row {
+    pub(crate) key: Key,
+    // the page that used the row last
+    pub(crate) last_use: u32,
+}
 
 // The rows in use, at most 96. No two have the same key.
 #[derive(Clone, Copy)]
@@ -34,10 +41,7 @@ impl Rows {
         ensures { rows_of result ≡ [] }
     {
         Rows {
-            rows: FixedVec::new(Row {
-                key: Key::new(&[]),
-                last_use: 0,
-            }),
+            rows: FixedVec::new(),
         }
     }
 

@@ -1,28 +1,15 @@
 ghost use Rattle.std.specs.Prelude.{◌≡◌, [], ◌∷◌};
-ghost use Rattle.math.specs.Finite.{all_finite};
 ghost use Rattle.records.specs.Finite.{glyph_finite, stop_finite, given_finite, attributes_finite};
 
 use crate::glyph::{Glyph, RunAttributes};
-use crate::question::Test;
 use draw::ColorStop;
 use math::Transform;
 
-// Whether every number of an entry is finite.
-pub struct IsFinite;
-
-impl Test<Transform> for IsFinite {
-    ghost passes = { all_finite };
-
-    fn test(x: &Transform) -> bool {
-        x.is_finite()
-    }
-}
-
-impl Test<Glyph> for IsFinite {
-    ghost passes = { glyph_finite };
-
-    fn test(x: &Glyph) -> bool {
-        x.x.is_finite() && x.y.is_finite()
+impl Glyph {
+    pub fn is_finite(&self) -> bool
+        ensures { result ≡ glyph_finite self.now }
+    {
+        self.x.is_finite() && self.y.is_finite()
     }
 }
 
@@ -34,12 +21,10 @@ pub(crate) fn numbers(stop: &ColorStop) -> [f32; 5]
     [stop.offset, c.r, c.g, c.b, c.a]
 }
 
-impl Test<ColorStop> for IsFinite {
-    ghost passes = { stop_finite };
-
-    fn test(x: &ColorStop) -> bool {
-        numbers(x).iter().all(|n| n.is_finite())
-    }
+pub fn is_stop_finite(stop: &ColorStop) -> bool
+    ensures { result ≡ stop_finite stop.now }
+{
+    numbers(stop).iter().all(|n| n.is_finite())
 }
 
 // A transform that is not given is finite.

@@ -55,10 +55,7 @@ impl DrawLinearGradient {
     pub fn is_finite(&self) -> bool
         ensures { result ≡ points_finite self.now }
     {
-        self.p0[0].is_finite()
-            && self.p0[1].is_finite()
-            && self.p1[0].is_finite()
-            && self.p1[1].is_finite()
+        self.p0.iter().all(|x| x.is_finite()) && self.p1.iter().all(|x| x.is_finite())
     }
 }
 

@@ -43,10 +43,9 @@ impl AddAssign for Counts {
 
     ghost can_add_assign = { Fit };
 
-    fn add_assign(&mut self, more: Counts)
-        requires { Fit self.old more }
-        ensures { self.new ≡ added self.old more }
-    {
+    ghost add_assign_gives = { λ old more new. new ≡ added old more };
+
+    fn add_assign(&mut self, more: Counts) {
         self.n_paths += more.n_paths;
         self.n_path_segments += more.n_path_segments;
         self.n_clips += more.n_clips;

@@ -2,7 +2,6 @@ ghost use Rattle.std.specs.Prelude.{◌≡◌};
 ghost use Rattle.records.specs.Unit.{in_unit, stop_in_unit, side_in_range};
 
 use crate::finite::numbers;
-use crate::question::Test;
 use draw::ColorStop;
 
 // Whether a number is from 0 to 1, by value: -0 is.
@@ -12,15 +11,11 @@ pub fn is_in_unit(x: f32) -> bool
     0.0 <= x && x <= 1.0
 }
 
-// Whether every number of an entry is from 0 to 1.
-pub struct InUnit;
-
-impl Test<ColorStop> for InUnit {
-    ghost passes = { stop_in_unit };
-
-    fn test(x: &ColorStop) -> bool {
-        numbers(x).iter().all(|n| is_in_unit(*n))
-    }
+// Whether each of the five numbers of a stop is from 0 to 1.
+pub fn is_stop_in_unit(stop: &ColorStop) -> bool
+    ensures { result ≡ stop_in_unit stop.now }
+{
+    numbers(stop).iter().all(|n| is_in_unit(*n))
 }
 
 // Whether a picture's side may be that long.

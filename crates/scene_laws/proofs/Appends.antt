@@ -1,6 +1,6 @@
 -- Lists and entries that are moved twice.
 use Rattle.std.proofs.Common.{◌≡◌, ℕ, ◌+◌, List, [], ◌∷◌, ◌++◌, map, length, take, None, refl, ap, ◌∙◌, append_assoc, add_assoc, arith, length-append}
-use Rattle.std.proofs.lemmas.List.{take_at, map-append}
+use Rattle.std.proofs.lemmas.List.{take_at, map-append, length-map}
 use Rattle.records.specs.Moved.{past, moved_patch, moved_run, under}
 use Rattle.records.specs.declared.patch.Patch.{Patch}
 use Rattle.records.specs.declared.patch.Patch.TheVariants.{Ramp, GlyphRun as Run, Image}
@@ -64,10 +64,6 @@ pub runs_twice : (a b : Scene) (rs : List GlyphRun)
 runs_twice a b [] = refl
 runs_twice a b (r ∷ rs) = cons_same (run_twice a b r) (runs_twice a b rs)
 
-length_mapped : {X Y : Type 0} (f : X → Y) (xs : List X) → length (map f xs) ≡ length xs
-length_mapped f [] = refl
-length_mapped f (x ∷ xs) = let ih = length_mapped f xs in omega arith
-
 pub associates : (a b c : Scene) → appended (appended a b None) c None ≡ appended a (appended b c None) None
 associates a b c =
     let p1 = append_assoc a.path_tags b.path_tags c.path_tags in
@@ -86,7 +82,7 @@ associates a b c =
     let lw = length-append a.draw_data b.draw_data in
     let ls = length-append a.stops b.stops in
     let lr : length (a.runs ++ map (moved_run None (ends a) (length a.glyphs)) b.runs) ≡ length a.runs + length b.runs
-    = length-append a.runs (map (moved_run None (ends a) (length a.glyphs)) b.runs) ∙ ap (λ n. length a.runs + n) (length_mapped (moved_run None (ends a) (length a.glyphs)) b.runs) in
+    = length-append a.runs (map (moved_run None (ends a) (length a.glyphs)) b.runs) ∙ ap (λ n. length a.runs + n) (length-map b.runs (moved_run None (ends a) (length a.glyphs))) in
     let t7 = patches_twice (length a.draw_data) (length a.stops) (length a.runs) (length b.draw_data) (length b.stops) (length b.runs) _ _ _ lw ls lr c.patches in
     let p8 = append_assoc a.stops b.stops c.stops in
     let p9 = append_assoc a.glyphs b.glyphs c.glyphs in

@@ -5,8 +5,6 @@ ghost use Rattle.scene_laws.specs.AppendLaws.{AppendLaws};
 
 // Append keeps the first scene in front, an empty scene changes only the flags, and without a
 // transform it does not matter which of two appends comes first.
-pub fn append_laws() -> u8
+pub fn append_laws()
     ensures { AppendLaws }
-{
-    0
-}
+{}

@@ -4,6 +4,7 @@ use Rattle.std.specs.List.{flat_map}
 use Rattle.std.proofs.lemmas.List.{drop_more, drop_all, length-append}
 use Rattle.std.proofs.lemmas.List.Concat.{length-flat_map}
 use Rattle.std.proofs.lemmas.List.Sums.{sum_by-cons}
+use Rattle.byte_writers.specs.declared.writer.Writer.{Writer}
 use Rattle.records.specs.declared.glyph.Glyph.{Glyph}
 use Rattle.records.specs.declared.glyph.GlyphRun.{GlyphRun}
 use Rattle.supply.specs.Meaning.{Meaning}
@@ -42,12 +43,12 @@ module _ {X : Type 0} (K : Kind X) (m : Meaning) where
   put_by gs r e = ap (λ b. cond b (flat_map (K.each m r) gs ++ K.close r) []) (sym e)
 
   -- a loop over the runs, at run i, which goes to place p
-  module _ {f : X → List ℕ} {D out : List ℕ} {start : ℕ} {xs W : List X} {at from : ℕ} (gs : List Glyph) (rs : List GlyphRun) (i : ℕ) (g : Left f D out start xs W (cuts_of K m gs (drop i rs)) at from) where
+  module _ {f : X → List ℕ} {before after : Writer} {xs W : List X} {from : ℕ} (gs : List Glyph) (rs : List GlyphRun) (i : ℕ) (g : Left f before after xs W (cuts_of K m gs (drop i rs)) from) where
     pub next_cut : (d : GlyphRun) (p : ℕ) → i < length rs → p ≡ K.place (get_or rs i d).stream_offsets
-        → Left f D out start xs W (record { place = p; gone = 0; put = put_of K m (range_of gs (get_or rs i d)) (get_or rs i d) } ∷ cuts_of K m gs (drop (i + 1) rs)) at from
+        → Left f before after xs W (record { place = p; gone = 0; put = put_of K m (range_of gs (get_or rs i d)) (get_or rs i d) } ∷ cuts_of K m gs (drop (i + 1) rs)) from
     next_cut d p h e =
-        subst (λ q. Left f D out start xs W (record { place = q; gone = 0; put = put_of K m (range_of gs (get_or rs i d)) (get_or rs i d) } ∷ cuts_of K m gs (drop (i + 1) rs)) at from) (sym e)
-        (subst (λ q. Left f D out start xs W (cuts_of K m gs q) at from) (drop_more rs i d h) g)
+        subst (λ q. Left f before after xs W (record { place = q; gone = 0; put = put_of K m (range_of gs (get_or rs i d)) (get_or rs i d) } ∷ cuts_of K m gs (drop (i + 1) rs)) from) (sym e)
+        (subst (λ q. Left f before after xs W (cuts_of K m gs q) from) (drop_more rs i d h) g)
 
-    pub no_run_left : length rs ≤ i → Left f D out start xs W [] at from
-    no_run_left h = subst (λ q. Left f D out start xs W (cuts_of K m gs q) at from) (drop_all i rs h) g
+    pub no_run_left : length rs ≤ i → Left f before after xs W [] from
+    no_run_left h = subst (λ q. Left f before after xs W (cuts_of K m gs q) from) (drop_all i rs h) g

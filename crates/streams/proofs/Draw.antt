@@ -3,6 +3,7 @@ use Rattle.std.proofs.Common.{◌≡◌, ℕ, ◌+◌, ◌<◌, ◌≤◌, List,
 use Rattle.std.proofs.lemmas.List.{drop_more, drop_all}
 use Rattle.std.proofs.lemmas.List.Sums.{sum_by-cons}
 use Rattle.byte_writers.specs.Bytes.{word_bytes}
+use Rattle.byte_writers.specs.declared.writer.Writer.{Writer}
 use Rattle.records.specs.declared.patch.Patch.{Patch}
 use Rattle.records.specs.declared.patch.Patch.TheVariants.{Ramp, GlyphRun as Run, Image}
 use Rattle.streams.specs.Splice.{Cut, Cuts}
@@ -37,20 +38,20 @@ module _ (late : Late) where
   draw_counted xs ps h = let a = counted xs 0 (draw_data_cuts late 0 ps) h in let b = evened 0 ps in omega arith
 
   -- a loop over the patches, at patch k
-  module _ {D out : List ℕ} {start : ℕ} {xs W : List ℕ} {at from : ℕ} (ps : List Patch) (k : ℕ) (g : Left word_bytes D out start xs W (draw_data_cuts late k (drop k ps)) at from) where
+  module _ {before after : Writer} {xs W : List ℕ} {from : ℕ} (ps : List Patch) (k : ℕ) (g : Left word_bytes before after xs W (draw_data_cuts late k (drop k ps)) from) where
     moved : (d : Patch) (o : Option ℕ) → k < length ps → o ≡ owned_from (get_or ps k d) → draw_data_cuts late k (drop k ps) ≡ with_cut late k o (draw_data_cuts late (k + 1) (drop (k + 1) ps))
     moved d o h e =
         ap (draw_data_cuts late k) (drop_more ps k d h) ∙ step late k (get_or ps k d) (drop (k + 1) ps) ∙ ap (λ q. with_cut late k q (draw_data_cuts late (k + 1) (drop (k + 1) ps))) (sym e)
 
     -- the patch owns words from o on, and binds ws
     pub next_cut : (d : Patch) (o : ℕ) (ws : List ℕ) → k < length ps → Some o ≡ owned_from (get_or ps k d) → ws ≡ late k
-        → Left word_bytes D out start xs W (record { place = o; gone = length ws; put = ws } ∷ draw_data_cuts late (k + 1) (drop (k + 1) ps)) at from
+        → Left word_bytes before after xs W (record { place = o; gone = length ws; put = ws } ∷ draw_data_cuts late (k + 1) (drop (k + 1) ps)) from
     next_cut d o ws h e b =
-        subst (λ v. Left word_bytes D out start xs W (record { place = o; gone = length v; put = v } ∷ draw_data_cuts late (k + 1) (drop (k + 1) ps)) at from) (sym b)
-        (subst (λ cs. Left word_bytes D out start xs W cs at from) (moved d (Some o) h e) g)
+        subst (λ v. Left word_bytes before after xs W (record { place = o; gone = length v; put = v } ∷ draw_data_cuts late (k + 1) (drop (k + 1) ps)) from) (sym b)
+        (subst (λ cs. Left word_bytes before after xs W cs from) (moved d (Some o) h e) g)
 
-    pub passed : (d : Patch) → k < length ps → None ≡ owned_from (get_or ps k d) → Left word_bytes D out start xs W (draw_data_cuts late (k + 1) (drop (k + 1) ps)) at from
-    passed d h e = subst (λ cs. Left word_bytes D out start xs W cs at from) (moved d None h e) g
+    pub passed : (d : Patch) → k < length ps → None ≡ owned_from (get_or ps k d) → Left word_bytes before after xs W (draw_data_cuts late (k + 1) (drop (k + 1) ps)) from
+    passed d h e = subst (λ cs. Left word_bytes before after xs W cs from) (moved d None h e) g
 
-    pub no_patch_left : length ps ≤ k → Left word_bytes D out start xs W [] at from
-    no_patch_left h = subst (λ cs. Left word_bytes D out start xs W cs at from) (ap (draw_data_cuts late k) (drop_all k ps h)) g
+    pub no_patch_left : length ps ≤ k → Left word_bytes before after xs W [] from
+    no_patch_left h = subst (λ cs. Left word_bytes before after xs W cs from) (ap (draw_data_cuts late k) (drop_all k ps h)) g

@@ -43,7 +43,7 @@ pub fn count_inserted<G: GlyphSupply>(supply: &G, all: GlyphRuns<'_>) -> Inserte
 {
     let mut sum = Inserted::default();
     for run in all.runs {
-        sum += count_run(supply, run, &all.glyphs[run.glyphs_start..run.glyphs_end]);
+        sum += count_run(supply, run, all.glyphs_of(run));
     }
     sum
 }

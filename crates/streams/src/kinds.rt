@@ -2,11 +2,13 @@ ghost use Rattle.streams.specs.Kinds.{tags_kind, data_kind, transforms_kind, sty
 
 use crate::glyphs::{brush_transform, glyph_transform, outline_of};
 use crate::run_stream::RunStream;
-use byte_writers::{Entry, put_all};
+use byte_writers::{Entry, Writer};
+use draw::PathTag;
 use math::Transform;
 use records::{Glyph, GlyphRun, StreamOffsets, Style};
 use supply::GlyphSupply;
 
+#[derive(Clone, Copy, Drop)]
 pub struct PathTags;
 
 impl RunStream for PathTags {
@@ -21,21 +23,21 @@ impl RunStream for PathTags {
     // A transform tag and the outline's tags.
     fn put_glyph<G: GlyphSupply>(
         supply: &G,
-        out: &mut [u8],
-        at: usize,
+        writer: &mut Writer<'_>,
         run: &GlyphRun,
         glyph: &Glyph,
-    ) -> usize {
-        let next = 0x20u8.put(out, at);
-        put_all(out, next, outline_of(supply, run, glyph).tags)
+    ) {
+        PathTag::TRANSFORM.put(writer);
+        writer.put_all(outline_of(supply, run, glyph).tags);
     }
 
     // A transform tag and a path tag.
-    fn put_close(out: &mut [u8], at: usize, _run: &GlyphRun) -> usize {
-        put_all(out, at, b"\x20\x10")
+    fn put_close(writer: &mut Writer<'_>, _run: &GlyphRun) {
+        writer.put_all(&[PathTag::TRANSFORM, PathTag::PATH]);
     }
 }
 
+#[derive(Clone, Copy, Drop)]
 pub struct PathData;
 
 impl RunStream for PathData {
@@ -49,19 +51,17 @@ impl RunStream for PathData {
 
     fn put_glyph<G: GlyphSupply>(
         supply: &G,
-        out: &mut [u8],
-        at: usize,
+        writer: &mut Writer<'_>,
         run: &GlyphRun,
         glyph: &Glyph,
-    ) -> usize {
-        put_all(out, at, outline_of(supply, run, glyph).words)
+    ) {
+        writer.put_all(outline_of(supply, run, glyph).words);
     }
 
-    fn put_close(_out: &mut [u8], at: usize, _run: &GlyphRun) -> usize {
-        at
-    }
+    fn put_close(_writer: &mut Writer<'_>, _run: &GlyphRun) {}
 }
 
+#[derive(Clone, Copy, Drop)]
 pub struct Transforms;
 
 impl RunStream for Transforms {
@@ -75,19 +75,19 @@ impl RunStream for Transforms {
 
     fn put_glyph<G: GlyphSupply>(
         _supply: &G,
-        out: &mut [u8],
-        at: usize,
+        writer: &mut Writer<'_>,
         run: &GlyphRun,
         glyph: &Glyph,
-    ) -> usize {
-        glyph_transform(run, glyph).put(out, at)
+    ) {
+        glyph_transform(run, glyph).put(writer);
     }
 
-    fn put_close(out: &mut [u8], at: usize, run: &GlyphRun) -> usize {
-        brush_transform(run).put(out, at)
+    fn put_close(writer: &mut Writer<'_>, run: &GlyphRun) {
+        brush_transform(run).put(writer);
     }
 }
 
+#[derive(Clone, Copy, Drop)]
 pub struct Styles;
 
 impl RunStream for Styles {
@@ -101,15 +101,12 @@ impl RunStream for Styles {
 
     fn put_glyph<G: GlyphSupply>(
         supply: &G,
-        out: &mut [u8],
-        at: usize,
+        writer: &mut Writer<'_>,
         run: &GlyphRun,
         glyph: &Glyph,
-    ) -> usize {
-        put_all(out, at, outline_of(supply, run, glyph).styles)
+    ) {
+        writer.put_all(outline_of(supply, run, glyph).styles);
     }
 
-    fn put_close(_out: &mut [u8], at: usize, _run: &GlyphRun) -> usize {
-        at
-    }
+    fn put_close(_writer: &mut Writer<'_>, _run: &GlyphRun) {}
 }

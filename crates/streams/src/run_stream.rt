@@ -1,9 +1,9 @@
 ghost use Rattle.std.specs.Prelude.{◌≡◌, ◌+◌, ◌*◌, ◌≤◌, length};
 ghost use Rattle.std.specs.List.{flat_map};
-ghost use Rattle.byte_writers.specs.Put.{Put};
+ghost use Rattle.byte_writers.specs.Wrote.{Wrote};
 ghost use Rattle.streams.specs.Kind.{Kind};
 
-use byte_writers::Entry;
+use byte_writers::{Entry, Writer};
 use records::{Glyph, GlyphRun, StreamOffsets};
 use supply::GlyphSupply;
 
@@ -17,18 +17,12 @@ pub trait RunStream {
     fn place(offsets: &StreamOffsets) -> usize
         ensures { result ≡ kind.place offsets.now };
 
-    fn put_glyph<G: GlyphSupply>(
-        supply: &G,
-        out: &mut [u8],
-        at: usize,
-        run: &GlyphRun,
-        glyph: &Glyph,
-    ) -> usize
-        requires { at + Self.Item.wide * length (kind.each (G.GlyphSupply.meaning supply.now) run.now glyph.now) ≤ length out.old }
-        ensures { Put out.old at (flat_map Self.Item.bytes (kind.each (G.GlyphSupply.meaning supply.now) run.now glyph.now)) result out.new };
+    fn put_glyph<G: GlyphSupply>(supply: &G, writer: &mut Writer<'_>, run: &GlyphRun, glyph: &Glyph)
+        requires { writer.old.at + Self.Item.wide * length (kind.each (G.GlyphSupply.meaning supply.now) run.now glyph.now) ≤ length writer.old.out.now }
+        ensures { Wrote writer.old (flat_map Self.Item.bytes (kind.each (G.GlyphSupply.meaning supply.now) run.now glyph.now)) writer.new };
 
     // What comes after the last glyph.
-    fn put_close(out: &mut [u8], at: usize, run: &GlyphRun) -> usize
-        requires { at + Self.Item.wide * length (kind.close run.now) ≤ length out.old }
-        ensures { Put out.old at (flat_map Self.Item.bytes (kind.close run.now)) result out.new };
+    fn put_close(writer: &mut Writer<'_>, run: &GlyphRun)
+        requires { writer.old.at + Self.Item.wide * length (kind.close run.now) ≤ length writer.old.out.now }
+        ensures { Wrote writer.old (flat_map Self.Item.bytes (kind.close run.now)) writer.new };
 }

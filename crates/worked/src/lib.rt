@@ -3,9 +3,7 @@
 
 ghost use Rattle.worked.specs.Worked.{Worked};
 
-// The values hold; the answer itself says nothing.
-pub fn worked_values() -> u8
+// The values hold.
+pub fn worked_values()
     ensures { Worked }
-{
-    0
-}
+{}

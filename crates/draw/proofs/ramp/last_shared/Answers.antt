@@ -1,8 +1,6 @@
 use Rattle.std.proofs.Common.{sym, ◌∙◌}
 use lib.Ieee.{ne}
-use Rattle.std.proofs.lemmas.List.{at_drop_all}
 use Rattle.std.proofs.lemmas.Bool.{not-true, not-false}
-use Rattle.draw.specs.Ramp.{last_shared}
 use Rattle.draw.proofs.Walk.{shared_on, shared_ends}
 use Rattle.draw.proofs.ramp.last_shared.Goals as goal
 

@@ -6,5 +6,5 @@ use Rattle.streams.proofs.draw_data.put_draw_data.Given as goal
 
 abbrev pub invariant-loop-k : goal.invariant-loop-k
 invariant-loop-k g l =
-    Left word_bytes l.initial.out l.out l.at l.words (bound_draw_data (g.L.LateWords.late l.late) l.words l.patches)
-    (draw_data_cuts (g.L.LateWords.late l.late) l.k (drop l.k l.patches)) l.next l.from
+    Left word_bytes l.initial.writer l.writer l.words (bound_draw_data (g.L.LateWords.late l.late) l.words l.patches)
+    (draw_data_cuts (g.L.LateWords.late l.late) l.k (drop l.k l.patches)) l.from

@@ -4,7 +4,7 @@ use Rattle.std.proofs.lemmas.List.{length-append, take_all}
 use Rattle.std.proofs.lemmas.Grind.{flat_map-append}
 use lib.Ieee.{nan}
 use Rattle.records.specs.declared.glyph.Glyph.{Glyph}
-use Rattle.byte_writers.proofs.Puts.{length_wide, wide_le, room, flat_map_step, put_as, put_then}
+use Rattle.byte_writers.proofs.Puts.{length_wide, wide_le, room, flat_map_step, wrote_as, wrote_then}
 use Rattle.streams.proofs.Counted.{put_by}
 use Rattle.streams.proofs.runs.put_run.Goals as goal
 
@@ -12,8 +12,8 @@ use Rattle.streams.proofs.runs.put_run.Goals as goal
 abbrev no_glyph : Glyph
 no_glyph = record { id = 0; x = nan; y = nan }
 
-pub put_glyph-next-requires : goal.put_glyph-next-requires
-put_glyph-next-requires g c =
+pub put_glyph-requires : goal.put_glyph-requires
+put_glyph-requires g c =
     let K = g.S.RunStream.kind in
     let m = g.G.GlyphSupply.meaning c.args.supply.now in
     let r = c.args.run.now in
@@ -24,7 +24,8 @@ put_glyph-next-requires g c =
     omega (
       arith,
       c.requires,
-      c.loop-glyph.invariant.size,
+      c.loop-glyph.invariant.put.size,
+      c.loop-glyph.invariant.long,
       length_wide g.S.Item.Entry.bytes w g.met.S.Item.Entry.wides (put (take c.loop-glyph.glyph-index gs)),
       room (K.each m r) w gs c.loop-glyph.glyph-index no_glyph c.loop-glyph-test.true,
       wide_le w (length (put gs)) (length (K.close r)) (length (put gs) + length (K.close r)) (omega arith),
@@ -37,8 +38,8 @@ loop-glyph-preserved g c =
     let f = g.S.Item.Entry.bytes in
     let gs = c.args.glyphs.now in
     let i = c.loop-glyph.glyph-index in
-    put_as (sym (flat_map-append f (flat_map each (take i gs)) (each (get_or gs i no_glyph))) ∙ ap (flat_map f) (sym (flat_map_step each gs i no_glyph c.loop-glyph-test.true)))
-    (put_then (omega (arith, c.requires)) c.loop-glyph.invariant c.put_glyph-next.ensures)
+    wrote_as (sym (flat_map-append f (flat_map each (take i gs)) (each (get_or gs i no_glyph))) ∙ ap (flat_map f) (sym (flat_map_step each gs i no_glyph c.loop-glyph-test.true)))
+    (wrote_then (omega (arith, c.requires)) c.loop-glyph.invariant c.put_glyph.ensures)
 
 pub put_close-requires : goal.put_close-requires
 put_close-requires g c =
@@ -53,7 +54,8 @@ put_close-requires g c =
     omega (
       arith,
       c.requires,
-      c.loop-glyph.invariant.size,
+      c.loop-glyph.invariant.put.size,
+      c.loop-glyph.invariant.long,
       length_wide g.S.Item.Entry.bytes w g.met.S.Item.Entry.wides (put (take c.loop-glyph.glyph-index gs)),
       wide_le w (length (put gs)) (length (K.close r)) (length (put gs) + length (K.close r)) (omega arith),
       ap (λ k. w * k) n,
@@ -69,5 +71,5 @@ returns g c =
     let gs = c.args.glyphs.now in
     let w = put_by K m gs r c.if-not-has_session.ensures in
     let t = ap put (take_all c.loop-glyph.glyph-index gs c.loop-glyph-test.false) in
-    put_as (ap (λ v. flat_map f v ++ flat_map f (K.close r)) t ∙ sym (flat_map-append f (put gs) (K.close r)) ∙ ap (flat_map f) (sym w))
-    (put_then (omega (arith, c.requires)) c.loop-glyph.invariant c.put_close.ensures)
+    wrote_as (ap (λ v. flat_map f v ++ flat_map f (K.close r)) t ∙ sym (flat_map-append f (put gs) (K.close r)) ∙ ap (flat_map f) (sym w))
+    (wrote_then (omega (arith, c.requires)) c.loop-glyph.invariant c.put_close.ensures)

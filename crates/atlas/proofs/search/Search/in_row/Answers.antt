@@ -1,22 +1,22 @@
 -- What is passed over is not free; what does not move is.
 use Rattle.std.proofs.Common.{◌∙◌, arith}
 use Rattle.atlas.specs.Corners.{row_past, row_step, row_found, row_none}
+use Rattle.atlas.proofs.Seeks.{sought}
 use Rattle.atlas.proofs.search.Search.in_row.Goals as goal
 
 pub returns-in_err-checked_sub : goal.returns-in_err-checked_sub
-returns-in_err-checked_sub c = let s = c.args.self.now in c.from_residual.ensures ∙ row_none s.side s.slots.now s.width s.height c.args.y 0 (omega arith) (λ k u. absurd (omega arith))
+returns-in_err-checked_sub c = c.from_residual.ensures ∙ row_none (sought c.args.self.now) c.args.y 0 (omega arith) (λ k u. absurd (omega arith))
 
 pub returns-then-next-x : goal.returns-then-next-x
-returns-then-next-x c = let s = c.args.self.now in row_found s.side s.slots.now s.width s.height c.args.y c.loop-x.x c.past_all-next.result c.past_all-next.ensures c.if-next-x.true (omega arith) (omega arith) c.loop-x.invariant
+returns-then-next-x c = row_found (sought c.args.self.now) c.args.y c.loop-x.x c.past_all-next.result c.past_all-next.ensures c.if-next-x.true (omega arith) (omega arith) c.loop-x.invariant
 
 pub loop-x-smaller : goal.loop-x-smaller
 loop-x-smaller c =
-    let s = c.args.self.now in
-    let p = row_past s.side s.slots.now s.width s.height c.args.y c.loop-x.x c.past_all-next.result c.past_all-next.ensures c.if-next-x.false in
+    let p = row_past (sought c.args.self.now) c.args.y c.loop-x.x c.past_all-next.result c.past_all-next.ensures c.if-next-x.false in
     omega arith
 
 pub loop-x-preserved : goal.loop-x-preserved
-loop-x-preserved c = let s = c.args.self.now in row_step s.side s.slots.now s.width s.height c.args.y c.loop-x.x c.past_all-next.result c.past_all-next.ensures c.loop-x.invariant
+loop-x-preserved c = row_step (sought c.args.self.now) c.args.y c.loop-x.x c.past_all-next.result c.past_all-next.ensures c.loop-x.invariant
 
 pub returns : goal.returns
-returns c = let s = c.args.self.now in row_none s.side s.slots.now s.width s.height c.args.y c.loop-x.x (omega arith) c.loop-x.invariant
+returns c = row_none (sought c.args.self.now) c.args.y c.loop-x.x (omega arith) c.loop-x.invariant

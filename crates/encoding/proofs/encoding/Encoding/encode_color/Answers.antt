@@ -1,6 +1,4 @@
 use Rattle.std.proofs.Common.{arith}
-use Rattle.encoding.specs.Scene.{meaning}
-use Rattle.encoding.proofs.Sounds.{sound}
 use Rattle.encoding.proofs.Kept.{patched_longer, recorded_longer}
 use Rattle.encoding.proofs.encoding.Encoding.encode_color.Goals as goal
 
@@ -8,4 +6,4 @@ pub invariant_of-self : goal.invariant_of-self
 invariant_of-self c =
     let s = c.args.self.now in
     let a = c.push.ensures.len in
-    let b = c.push-2.ensures.len in record { few = s.few; patched = patched_longer (meaning s) (sound s) (omega (arith, b)) (omega arith); turned = s.turned; recorded = recorded_longer (meaning s) (sound s) (omega arith) (omega arith) (omega (arith, a)) (omega (arith, b)) (omega arith) (omega arith) }
+    let b = c.push-2.ensures.len in record { few = s.few; patched = patched_longer s (omega (arith, b)) (omega arith); turned = s.turned; recorded = recorded_longer s (omega arith) (omega arith) (omega (arith, a)) (omega (arith, b)) (omega arith) (omega arith) }

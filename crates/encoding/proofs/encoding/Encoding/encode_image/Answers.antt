@@ -1,6 +1,4 @@
 use Rattle.std.proofs.Common.{arith}
-use Rattle.encoding.specs.Scene.{meaning}
-use Rattle.encoding.proofs.Sounds.{sound}
 use Rattle.encoding.proofs.Kept.{patched_image, turned_image, recorded_longer}
 use Rattle.encoding.proofs.encoding.Encoding.encode_image.Goals as goal
 
@@ -11,8 +9,8 @@ invariant_of-self c =
     let a = c.push-2.ensures.len in
     let b = c.extend_from_slice.ensures.len in record {
       few = s.few;
-      patched = patched_image (meaning s) (sound s) _ _ _ _ _ _ c.len.ensures.value c.push.ensures.items
+      patched = patched_image s _ _ _ _ _ _ c.len.ensures.value c.push.ensures.items
           (omega (arith, b)) (omega arith) sides.width sides.height sides.some_width sides.some_height;
-      turned = turned_image (meaning s) (sound s) _ _ _ _ c.push.ensures.items;
-      recorded = recorded_longer (meaning s) (sound s) (omega arith) (omega arith) (omega (arith, a)) (omega (arith, b)) (omega arith) (omega arith);
+      turned = turned_image s _ _ _ _ c.push.ensures.items;
+      recorded = recorded_longer s (omega arith) (omega arith) (omega (arith, a)) (omega (arith, b)) (omega arith) (omega arith);
     }

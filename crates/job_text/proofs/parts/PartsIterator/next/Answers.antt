@@ -5,7 +5,7 @@ use Rattle.job_text.proofs.parts.PartsIterator.next.Goals as goal
 
 pub returns-clause-steps : goal.returns-clause-steps
 returns-clause-steps c =
-    cut _ _ _ _ _ _ _ (ap (option_map (λ x. x.now)) c.in_ok-text.was) c.up_to.ensures.value c.split_at.ensures.front c.split_at.ensures.back c.past_first-self.ensures
+    cut _ _ _ _ _ (ap (option_map (λ x. x.now)) c.in_ok-text.was) c.cut.ensures.front c.cut.ensures.back
 
 pub returns-clause-goes : goal.returns-clause-goes
 returns-clause-goes c = record {

@@ -1,5 +1,5 @@
 use Rattle.std.proofs.Common.{◌≡◌, take}
-use Rattle.ramps.specs.FixedVec.{items_of}
+use Rattle.fixed_vec.specs.Items.{items_of}
 use Rattle.ramps.proofs.key.Key.new.Given as goal
 
 abbrev pub invariant-loop-stop : goal.invariant-loop-stop

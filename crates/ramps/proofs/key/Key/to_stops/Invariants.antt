@@ -1,6 +1,6 @@
 use Rattle.std.proofs.Common.{◌≡◌, map, take}
 use Rattle.draw.specs.Color.{stop_of}
-use Rattle.ramps.specs.FixedVec.{items_of}
+use Rattle.fixed_vec.specs.Items.{items_of}
 use Rattle.ramps.specs.View.{key_of}
 use Rattle.ramps.proofs.key.Key.to_stops.Given as goal
 

@@ -1,5 +1,5 @@
 use Rattle.std.proofs.Common.{refl, sym, arith}
-use Rattle.ramps.specs.FixedVec.{items_of}
+use Rattle.fixed_vec.specs.Items.{items_of}
 use Rattle.ramps.specs.View.{key_of}
 use Rattle.ramps.specs.Held.{rows_of}
 use Rattle.ramps.proofs.Added.{set_added, push_added, rows_sound}

@@ -1,6 +1,6 @@
 use Rattle.std.proofs.Common.{◌≡◌, map, sym, ap, ◌∙◌, subst}
 use Rattle.std.proofs.lemmas.List.{take-map}
-use Rattle.ramps.specs.FixedVec.{items_of}
+use Rattle.fixed_vec.specs.Items.{items_of}
 use Rattle.ramps.specs.Laws.{Distinct}
 use Rattle.ramps.specs.Rows.{maintained}
 use Rattle.ramps.specs.View.{row_of}
