@@ -1,4 +1,4 @@
-// Little-endian writers into a lent buffer. Each runs at the speed of a copy.
+// Little-endian writers into a lent buffer, which they fill in one pass.
 #![tactic(auto)]
 
 mod entry;
