@@ -21,7 +21,7 @@ fn put_path_tags<G: GlyphSupply>(supply: &G, encoding: &Encoding, writer: &mut W
     ensures { Wrote writer.old (path_tag_stream (G.GlyphSupply.meaning supply.now) (meaning encoding.now)) writer.new }
 {
     let runs = glyph_runs(encoding);
-    put_stream::<PathTags, G>(supply, writer, encoding.path_tags(), runs);
+    put_stream(&PathTags { supply }, writer, encoding.path_tags(), runs);
     let open_clips = encoding.counts().n_open_clips as usize;
     writer.put_repeated(open_clips, PathTag::PATH);
     let closed = writer.at();
@@ -52,10 +52,20 @@ pub(crate) fn put_page<G: GlyphSupply, L: LateWords>(
     let open_clips = encoding.counts().n_open_clips;
     let mut writer = Writer::new(out, 0);
     put_path_tags(supply, encoding, &mut writer);
-    put_stream::<PathData, G>(supply, &mut writer, encoding.path_data(), runs);
+    put_stream(
+        &PathData { supply },
+        &mut writer,
+        encoding.path_data(),
+        runs,
+    );
     put_draw_tags(&mut writer, encoding.draw_tags(), open_clips);
     put_draw_data(late, &mut writer, encoding.draw_data(), encoding.patches());
-    put_stream::<Transforms, G>(supply, &mut writer, encoding.transforms(), runs);
-    put_stream::<Styles, G>(supply, &mut writer, encoding.styles(), runs);
+    put_stream(
+        &Transforms { supply },
+        &mut writer,
+        encoding.transforms(),
+        runs,
+    );
+    put_stream(&Styles { supply }, &mut writer, encoding.styles(), runs);
     writer.at()
 }

@@ -19,13 +19,18 @@ put_stream-requires g c =
     let h = sound c.args.encoding.now in
     let z = sizes m c.args.encoding.now (g.L.LateWords.late c.args.late.now) c.requires.owned in
     let room = ap length c.new-writer.ensures.bytes in
-    rw (c.path_data.ensures, c.glyph_runs-runs.ensures.glyphs, c.glyph_runs-runs.ensures.runs) (record { cuts = data_kept s h m; space = grind arith })
+    let tags = c.put_path_tags.ensures in
+    rw (c.path_data.ensures, c.glyph_runs-runs.ensures.glyphs, c.glyph_runs-runs.ensures.runs)
+    (record { cuts = data_kept s h m; space = omega (arith, c.requires.space, room, c.new-writer.ensures.start, tags.put.size, tags.long, z.path_tags) })
 
 pub put_draw_tags-requires : goal.put_draw_tags-requires
 put_draw_tags-requires g c =
     let z = sizes (g.G.GlyphSupply.meaning c.args.supply.now) c.args.encoding.now (g.L.LateWords.late c.args.late.now) c.requires.owned in
     let room = ap length c.new-writer.ensures.bytes in
-    grind arith
+    let tags = c.put_path_tags.ensures in
+    let path_data = rw (c.path_data.ensures, c.glyph_runs-runs.ensures.glyphs, c.glyph_runs-runs.ensures.runs) at c.put_stream.ensures in
+    rw (c.draw_tags.ensures, c.counts-open_clips.ensures)
+    (omega (arith, c.requires.space, room, c.new-writer.ensures.start, tags.put.size, tags.long, path_data.put.size, path_data.long, z.path_tags, z.path_data))
 
 pub put_draw_data-requires : goal.put_draw_data-requires
 put_draw_data-requires g c =
@@ -33,7 +38,28 @@ put_draw_data-requires g c =
     let h = sound c.args.encoding.now in
     let z = sizes (g.G.GlyphSupply.meaning c.args.supply.now) c.args.encoding.now (g.L.LateWords.late c.args.late.now) c.requires.owned in
     let room = ap length c.new-writer.ensures.bytes in
-    rw (c.draw_data.ensures, c.patches.ensures) (record { cuts = draw_kept s h (g.L.LateWords.late c.args.late.now) c.requires.owned; space = grind arith })
+    let tags = c.put_path_tags.ensures in
+    let path_data = rw (c.path_data.ensures, c.glyph_runs-runs.ensures.glyphs, c.glyph_runs-runs.ensures.runs) at c.put_stream.ensures in
+    let draw_tags = rw (c.draw_tags.ensures, c.counts-open_clips.ensures) at c.put_draw_tags.ensures in
+    rw (c.draw_data.ensures, c.patches.ensures)
+    (record {
+      cuts = draw_kept s h (g.L.LateWords.late c.args.late.now) c.requires.owned;
+      space = omega (
+        arith,
+        c.requires.space,
+        room,
+        c.new-writer.ensures.start,
+        tags.put.size,
+        tags.long,
+        path_data.put.size,
+        path_data.long,
+        draw_tags.put.size,
+        draw_tags.long,
+        z.path_tags,
+        z.path_data,
+        z.draw_tags,
+      );
+    })
 
 pub put_stream-requires-2 : goal.put_stream-requires-2
 put_stream-requires-2 g c =

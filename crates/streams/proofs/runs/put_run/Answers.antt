@@ -14,62 +14,60 @@ no_glyph = record { id = 0; x = nan; y = nan }
 
 pub put_glyph-requires : goal.put_glyph-requires
 put_glyph-requires g c =
-    let K = g.S.RunStream.kind in
-    let m = g.G.GlyphSupply.meaning c.args.supply.now in
+    let K = g.S.RunStream.kind c.args.stream.now in
     let r = c.args.run.now in
-    let w = g.S.Item.Entry.wide in
-    let put = flat_map (K.each m r) in
+    let put = flat_map (K.each r) in
     let gs = c.args.glyphs.now in
-    let n = ap length (put_by K m gs r c.if-not-has_session.ensures) ∙ length-append (put gs) (K.close r) in
+    let i = c.loop-glyph.glyph-index in
+    let n = ap length (put_by K gs r c.if-not-session.ensures) ∙ length-append (put gs) (K.close r) in
     omega (
       arith,
       c.requires,
       c.loop-glyph.invariant.put.size,
       c.loop-glyph.invariant.long,
-      length_wide g.S.Item.Entry.bytes w g.met.S.Item.Entry.wides (put (take c.loop-glyph.glyph-index gs)),
-      room (K.each m r) w gs c.loop-glyph.glyph-index no_glyph c.loop-glyph-test.true,
-      wide_le w (length (put gs)) (length (K.close r)) (length (put gs) + length (K.close r)) (omega arith),
-      ap (λ k. w * k) n,
+      length_wide K.bytes K.wide K.wides (put (take i gs)),
+      length_wide K.bytes K.wide K.wides (K.each r (get_or gs i no_glyph)),
+      room (K.each r) K.wide gs i no_glyph c.loop-glyph-test.true,
+      wide_le K.wide (length (put gs)) (length (K.close r)) (length (put gs) + length (K.close r)) (omega arith),
+      ap (λ k. K.wide * k) n,
     )
 
 pub loop-glyph-preserved : goal.loop-glyph-preserved
 loop-glyph-preserved g c =
-    let each = g.S.RunStream.kind.each (g.G.GlyphSupply.meaning c.args.supply.now) c.args.run.now in
-    let f = g.S.Item.Entry.bytes in
+    let K = g.S.RunStream.kind c.args.stream.now in
+    let each = K.each c.args.run.now in
     let gs = c.args.glyphs.now in
     let i = c.loop-glyph.glyph-index in
-    wrote_as (sym (flat_map-append f (flat_map each (take i gs)) (each (get_or gs i no_glyph))) ∙ ap (flat_map f) (sym (flat_map_step each gs i no_glyph c.loop-glyph-test.true)))
+    wrote_as (sym (flat_map-append K.bytes (flat_map each (take i gs)) (each (get_or gs i no_glyph))) ∙ ap (flat_map K.bytes) (sym (flat_map_step each gs i no_glyph c.loop-glyph-test.true)))
     (wrote_then (omega (arith, c.requires)) c.loop-glyph.invariant c.put_glyph.ensures)
 
 pub put_close-requires : goal.put_close-requires
 put_close-requires g c =
-    let K = g.S.RunStream.kind in
-    let m = g.G.GlyphSupply.meaning c.args.supply.now in
+    let K = g.S.RunStream.kind c.args.stream.now in
     let r = c.args.run.now in
-    let w = g.S.Item.Entry.wide in
-    let put = flat_map (K.each m r) in
+    let put = flat_map (K.each r) in
     let gs = c.args.glyphs.now in
-    let n = ap length (put_by K m gs r c.if-not-has_session.ensures) ∙ length-append (put gs) (K.close r) in
-    let t = ap (λ xs. w * length (put xs)) (take_all c.loop-glyph.glyph-index gs c.loop-glyph-test.false) in
+    let n = ap length (put_by K gs r c.if-not-session.ensures) ∙ length-append (put gs) (K.close r) in
+    let t = ap (λ xs. K.wide * length (put xs)) (take_all c.loop-glyph.glyph-index gs c.loop-glyph-test.false) in
     omega (
       arith,
       c.requires,
       c.loop-glyph.invariant.put.size,
       c.loop-glyph.invariant.long,
-      length_wide g.S.Item.Entry.bytes w g.met.S.Item.Entry.wides (put (take c.loop-glyph.glyph-index gs)),
-      wide_le w (length (put gs)) (length (K.close r)) (length (put gs) + length (K.close r)) (omega arith),
-      ap (λ k. w * k) n,
+      length_wide K.bytes K.wide K.wides (put (take c.loop-glyph.glyph-index gs)),
+      length_wide K.bytes K.wide K.wides (K.close r),
+      wide_le K.wide (length (put gs)) (length (K.close r)) (length (put gs) + length (K.close r)) (omega arith),
+      ap (λ k. K.wide * k) n,
     )
 
 pub returns : goal.returns
 returns g c =
-    let K = g.S.RunStream.kind in
-    let m = g.G.GlyphSupply.meaning c.args.supply.now in
+    let K = g.S.RunStream.kind c.args.stream.now in
     let r = c.args.run.now in
-    let f = g.S.Item.Entry.bytes in
-    let put = flat_map (K.each m r) in
+    let f = K.bytes in
+    let put = flat_map (K.each r) in
     let gs = c.args.glyphs.now in
-    let w = put_by K m gs r c.if-not-has_session.ensures in
+    let w = put_by K gs r c.if-not-session.ensures in
     let t = ap put (take_all c.loop-glyph.glyph-index gs c.loop-glyph-test.false) in
     wrote_as (ap (λ v. flat_map f v ++ flat_map f (K.close r)) t ∙ sym (flat_map-append f (put gs) (K.close r)) ∙ ap (flat_map f) (sym w))
     (wrote_then (omega (arith, c.requires)) c.loop-glyph.invariant c.put_close.ensures)

@@ -5,4 +5,5 @@ use Rattle.streams.proofs.runs.put_run.Given as goal
 
 abbrev pub invariant-loop-glyph : goal.invariant-loop-glyph
 invariant-loop-glyph g l =
-    Wrote l.initial.writer (flat_map g.S.Item.Entry.bytes (flat_map (g.S.RunStream.kind.each (g.G.GlyphSupply.meaning l.supply) l.run) (take l.glyph-index l.glyphs))) l.writer
+    let K = g.S.RunStream.kind l.stream in
+    Wrote l.initial.writer (flat_map K.bytes (flat_map (K.each l.run) (take l.glyph-index l.glyphs))) l.writer

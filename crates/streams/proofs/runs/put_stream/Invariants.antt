@@ -5,6 +5,6 @@ use Rattle.streams.proofs.runs.put_stream.Given as goal
 
 abbrev pub invariant-loop-run : goal.invariant-loop-run
 invariant-loop-run g l =
-    let m = g.G.GlyphSupply.meaning l.supply in
-    Left g.S.Item.Entry.bytes l.initial.writer l.writer l.entries (stream_of g.S.RunStream.kind m l.entries l.all.glyphs.now l.all.runs.now)
-    (cuts_of g.S.RunStream.kind m l.all.glyphs.now (drop l.run-index l.all.runs.now)) l.from
+    let K = g.S.RunStream.kind l.stream in
+    Left K.bytes l.initial.writer l.writer l.entries (stream_of K l.entries l.all.glyphs.now l.all.runs.now)
+    (cuts_of K l.all.glyphs.now (drop l.run-index l.all.runs.now)) l.from
