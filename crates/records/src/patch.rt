@@ -8,6 +8,23 @@ pub enum Extend {
     Reflect,
 }
 
+impl Extend {
+    ghost use Rattle.std.specs.Prelude.{◌≡◌, ◌≤◌};
+    ghost use Rattle.records.specs.Numbers.{extend_of};
+
+    pub fn from_number(n: u32) -> Extend
+        requires { n ≤ 2 }
+        ensures { result ≡ extend_of n }
+    {
+        match n {
+            0 => Extend::Pad,
+            1 => Extend::Repeat,
+            2 => Extend::Reflect,
+            _ => unreachable(),
+        }
+    }
+}
+
 impl TryFrom<u32> for Extend {
     ghost use Rattle.std.specs.Prelude.{◌≡◌};
     ghost use Rattle.records.specs.Numbers.{extend_from};
@@ -17,12 +34,10 @@ impl TryFrom<u32> for Extend {
     ghost try_from_gives = { λ n r. r ≡ extend_from n };
 
     fn try_from(n: u32) -> Result<Extend, Refusal> {
-        match n {
-            0 => Ok(Extend::Pad),
-            1 => Ok(Extend::Repeat),
-            2 => Ok(Extend::Reflect),
-            _ => Err(Refusal::OutOfRange),
+        if n > 2 {
+            return Err(Refusal::OutOfRange);
         }
+        Ok(Extend::from_number(n))
     }
 }
 
