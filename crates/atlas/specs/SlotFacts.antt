@@ -9,7 +9,7 @@ use Rattle.std.proofs.lemmas.Option.{none-some}
 use Rattle.atlas.specs.declared.rect.Rect.{Rect}
 use Rattle.atlas.specs.Rects.{Apart, Inside, rect, meets}
 use Rattle.atlas.specs.Kind.{InUse}
-use Rattle.atlas.specs.Slots.{Slots, slot, vacant, allowed, misses, clear, Separate, both_miss, SquareSound}
+use Rattle.atlas.specs.Slots.{Slots, slot, vacant, allowed, misses, clear, Lies, Separate, both_miss, SquareSound}
 use Rattle.atlas.specs.RectFacts.{apart_missed, apart_sym}
 
 -- the first empty slot
@@ -175,40 +175,54 @@ separate_from ss f i j ne = look (slot ss i) (slot ss j) refl refl
     look (Some r) None p q = refl
     look (Some r) (Some t) p q = not_from_false _ (f i j r t ne p q)
 
-module _ (S : ℕ) (ss : Slots) (v : SquareSound S ss) where
+module _ (S : ℕ) (ss : Slots) (lie : Lies S ss) (sep : Separate ss) where
   -- one rectangle more, inside and clear of every live one
+  pub lies_set : (v : ℕ) (n : Rect) → v < length ss → Inside S n → Lies S (slice_set ss v (Some n))
+  lies_set v n l a i r e = ⊎_elim (λ c. subst (Inside S) c.1 a) (λ c. lie i r c.1) (slot_after ss v n i r l e)
+
+  pub separate_set : (v : ℕ) (n : Rect) → v < length ss → ((i : ℕ) (r : Rect) → slot ss i ≡ Some r → Apart n r) → Separate (slice_set ss v (Some n))
+  separate_set v n l f = separate_from (slice_set ss v (Some n)) (λ i j r t ne e q. ⊎_elim
+      (λ c. ⊎_elim
+      (λ d. absurd (ne (c.0 ∙ sym d.0)))
+      (λ d. ap (λ z. meets z t) (sym c.1) ∙ apart_missed n t (f j t d.1))
+      (slot_after ss v n j t l q))
+      (λ c. ⊎_elim
+      (λ d. ap (meets r) (sym d.1) ∙ apart_missed r n (apart_sym n r (f i r c.1)))
+      (λ d. separate_at ss sep i j r t ne c.1 d.1)
+      (slot_after ss v n j t l q))
+      (slot_after ss v n i r l e))
+
+  -- one rectangle less
+  pub lies_emptied : (v : ℕ) → Lies S (slice_set ss v None)
+  lies_emptied v i r e = lie i r (slot_before ss v i r e)
+
+  pub separate_emptied : (v : ℕ) → Separate (slice_set ss v None)
+  separate_emptied v = separate_from (slice_set ss v None) (λ i j r t ne e q. separate_at ss sep i j r t ne (slot_before ss v i r e) (slot_before ss v j t q))
+
+pub lies_none : (S n : ℕ) → Lies S (replicate n None)
+lies_none S n i r e = absurd (none-some r (sym (slot_none n i) ∙ e))
+
+pub separate_none : (n : ℕ) → Separate (replicate n None)
+separate_none n i j ne = ap (λ o. both_miss o (slot (replicate n None) j)) (slot_none n i)
+
+module _ (S : ℕ) (ss : Slots) (v : SquareSound S ss) where
   pub sound_set : (k : ℕ) (n : Rect) → k < 256 → Inside S n → ((i : ℕ) (r : Rect) → slot ss i ≡ Some r → Apart n r) → SquareSound S (slice_set ss k (Some n))
   sound_set k n u a f =
       let l : k < length ss = omega (arith, v.whole) in
       record {
         small = v.small;
         whole = length-set ss k (Some n) ∙ v.whole;
-        lies = λ i r e. ⊎_elim (λ c. subst (Inside S) c.1 a) (λ c. v.lies i r c.1) (slot_after ss k n i r l e);
-        separate = separate_from (slice_set ss k (Some n)) (λ i j r t ne e q. ⊎_elim
-            (λ c. ⊎_elim
-            (λ d. absurd (ne (c.0 ∙ sym d.0)))
-            (λ d. ap (λ z. meets z t) (sym c.1) ∙ apart_missed n t (f j t d.1))
-            (slot_after ss k n j t l q))
-            (λ c. ⊎_elim
-            (λ d. ap (meets r) (sym d.1) ∙ apart_missed r n (apart_sym n r (f i r c.1)))
-            (λ d. separate_at ss v.separate i j r t ne c.1 d.1)
-            (slot_after ss k n j t l q))
-            (slot_after ss k n i r l e));
+        lies = lies_set S ss v.lies v.separate k n l a;
+        separate = separate_set S ss v.lies v.separate k n l f;
       }
 
-  -- one rectangle less
   pub sound_emptied : (k : ℕ) → SquareSound S (slice_set ss k None)
   sound_emptied k = record {
     small = v.small;
     whole = length-set ss k None ∙ v.whole;
-    lies = λ i r e. v.lies i r (slot_before ss k i r e);
-    separate = separate_from (slice_set ss k None) (λ i j r t ne e q. separate_at ss v.separate i j r t ne (slot_before ss k i r e) (slot_before ss k j t q));
+    lies = lies_emptied S ss v.lies v.separate k;
+    separate = separate_emptied S ss v.lies v.separate k;
   }
 
 pub sound_none : (S : ℕ) → S ≤ 8192 → SquareSound S (replicate 256 None)
-sound_none S u = record {
-  small = u;
-  whole = length-replicate {A = Option Rect} 256 None;
-  lies = λ i r e. absurd (none-some r (sym (slot_none 256 i) ∙ e));
-  separate = λ i j ne. ap (λ o. both_miss o (slot (replicate 256 None) j)) (slot_none 256 i);
-}
+sound_none S u = record { small = u; whole = length-replicate {A = Option Rect} 256 None; lies = lies_none S 256; separate = separate_none 256 }

@@ -25,12 +25,12 @@ impl ShelfAtlas {
         ensures { result ≡ on_shelf self.now.square.side self.now.square.slots width height y shelf }
     {
         let last = u64::from(self.square.side.checked_sub(width)?);
-        let x = self.square.far_end(y);
-        if height <= shelf && x <= last {
-            Some((x as u32, y))
-        } else {
-            None
+        // A shelf that is too low is passed over before its pictures are looked at.
+        if height > shelf {
+            return None;
         }
+        let x = self.square.far_end(y);
+        if x <= last { Some((x as u32, y)) } else { None }
     }
 
     // The place on a new shelf at `y`, if that fits.
