@@ -2,13 +2,13 @@ use crate::reason::Reason;
 use crate::values::Value;
 use job_text::{Flaw, Line, cut};
 use std::alloc::Global;
-use std::collections::BTreeMap;
 
-// The fields of a command, each once.
+// The fields of a command, each once: keys with their values. A list and no map: they are few, and with a map a line
+// that has fields takes a third longer.
 #[derive(Drop)]
 pub struct Fields<'a> {
     heap: Global,
-    values: BTreeMap<&'static str, &'a [u8]>,
+    all: Vec<(&'static str, &'a [u8])>,
 }
 
 // The key and the value of a field's word, whose key is one of those that the command has.
@@ -33,19 +33,29 @@ impl<'a> Fields<'a> {
         line: &mut Line<'a>,
         keys: &[&'static str],
     ) -> Result<Fields<'a>, Reason> {
-        let mut values = BTreeMap::new(heap);
+        let mut fields = Fields {
+            heap,
+            all: Vec::new(heap),
+        };
         for word in &mut *line {
             let (key, value) = read_field(word, keys)?;
-            if values.insert(key, value)?.is_some() {
+            if fields.value(key).is_some() {
                 return Err(Reason::FieldTwice(key));
             }
+            fields.all.push((key, value))?;
         }
-        Ok(Fields { heap, values })
+        Ok(fields)
+    }
+
+    // The value of a field, if it is given.
+    fn value(&self, key: &str) -> Option<&'a [u8]> {
+        let field = self.all.iter().find(|field| field.0 == key);
+        field.map(|field| field.1)
     }
 
     // A field that may be left out.
     pub(crate) fn optional<T: Value>(&self, key: &'static str) -> Result<Option<T>, Reason> {
-        let value = self.values.get(&key).map(|text| T::read(self.heap, text));
+        let value = self.value(key).map(|text| T::read(self.heap, text));
         value.transpose().map_err(|flaw| match flaw {
             Flaw::Form => Reason::WrongValue(key),
             Flaw::Memory => Reason::NoMemory,

@@ -1,5 +1,5 @@
 ghost use Rattle.std.specs.Prelude.{◌≡◌, ℕ, ◌^◌, List, Option, Some, None, MatchResult};
-ghost use Rattle.std.specs.Option.{option_map};
+ghost use Rattle.std.specs.Option.{ok_or, option_map};
 ghost use Rattle.job_text.specs.Floats.{FloatOf};
 ghost use Rattle.job_text.specs.Numerals.{bytes_of, numeral, word_of};
 ghost use Rattle.job_text.specs.declared.flaw.Flaw.TheVariants.{Form};
@@ -22,7 +22,9 @@ pub(crate) struct Number(pub u32);
 impl Value for Number {
     ghost reads = { λ text r. option_map (λ n. n.0) r ≡ numeral 10 (2 ^ 32) text };
 
-    fn read(_heap: Global, text: &[u8]) -> Result<Number, Flaw> {
+    fn read(_heap: Global, text: &[u8]) -> Result<Number, Flaw>
+        ensures { MatchResult result (λ n. numeral 10 (2 ^ 32) text.now ≡ Some n.0) (λ flaw. (flaw ≡ Form) × (numeral 10 (2 ^ 32) text.now ≡ None)) }
+    {
         decimal_u32(text).map(Number).ok_or(Flaw::Form)
     }
 }
@@ -31,7 +33,9 @@ impl Value for Number {
 impl Value for u64 {
     ghost reads = { λ text r. r ≡ numeral 10 (2 ^ 64) text };
 
-    fn read(_heap: Global, text: &[u8]) -> Result<u64, Flaw> {
+    fn read(_heap: Global, text: &[u8]) -> Result<u64, Flaw>
+        ensures { result ≡ ok_or (numeral 10 (2 ^ 64) text.now) Form }
+    {
         decimal(text).ok_or(Flaw::Form)
     }
 }
@@ -40,7 +44,9 @@ impl Value for u64 {
 impl Value for u32 {
     ghost reads = { λ text r. r ≡ word_of text };
 
-    fn read(_heap: Global, text: &[u8]) -> Result<u32, Flaw> {
+    fn read(_heap: Global, text: &[u8]) -> Result<u32, Flaw>
+        ensures { result ≡ ok_or (word_of text.now) Form }
+    {
         hex_word(text).ok_or(Flaw::Form)
     }
 }
@@ -48,7 +54,9 @@ impl Value for u32 {
 impl Value for f32 {
     ghost reads = { FloatOf };
 
-    fn read(_heap: Global, text: &[u8]) -> Result<f32, Flaw> {
+    fn read(_heap: Global, text: &[u8]) -> Result<f32, Flaw>
+        ensures { MatchResult result (λ x. FloatOf text.now (Some x)) (λ flaw. (flaw ≡ Form) × FloatOf text.now None) }
+    {
         float(text).ok_or(Flaw::Form)
     }
 }

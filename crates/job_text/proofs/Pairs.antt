@@ -1,8 +1,8 @@
 -- Two hexadecimal digits to a byte, as the crate `hex` reads them.
-use Rattle.std.proofs.Common.{◌≡◌, ℕ, ◌+◌, ◌*◌, ◌%◌, Bool, true, false, cond, ◌&&◌, eqb, ltb, List, [], ◌∷◌, length, Some, None, Option, Ok, Err, Result, MatchResult, refl, ap, ap₂, ◌∙◌, subst, arith, eqb-true}
+use Rattle.std.proofs.Common.{◌≡◌, ℕ, ◌+◌, ◌*◌, ◌/◌, ◌%◌, Bool, true, false, cond, ◌&&◌, eqb, ltb, List, [], ◌∷◌, length, Some, None, Option, Ok, Err, Result, MatchResult, refl, ap, ap₂, sym, ◌∙◌, subst, arith, eqb-true}
 use Rattle.std.specs.Char.{digit_value}
 use Rattle.std.proofs.lemmas.Bool.Decides.{nat_tests}
-use Rattle.hex.specs.Hex.{◌>>=◌, hex_digit_value, digit_or_error, decode_of, decode_pairs, pair_value}
+use Rattle.hex.specs.Hex.{◌>>=◌, hex_digit_value, digit_or_error, decode_of, decode_pairs, decode_sized, pair_value}
 use Rattle.hex.specs.declared.error.FromHexError.{FromHexError}
 use Rattle.hex.specs.declared.error.FromHexError.TheVariants.{OddLength}
 use Rattle.job_text.specs.Numerals.{byte_of, before, bytes_of}
@@ -34,7 +34,7 @@ pairs i (a ∷ []) = refl
 pairs i (a ∷ b ∷ cs) =
     next (pair_value a b i) (decode_pairs (i + 2) cs) (byte_of a b) (bytes_of cs) (pair a b i) (pairs (i + 2) cs)
 
-odd : (text : List ℕ) → length text % 2 ≡ 1 → bytes_of text ≡ None
+pub odd : (text : List ℕ) → length text % 2 ≡ 1 → bytes_of text ≡ None
 odd [] h = absurd (omega arith)
 odd (a ∷ []) h = refl
 odd (a ∷ b ∷ cs) h = ap (before (byte_of a b)) (odd cs (omega arith)) ∙ none (byte_of a b)
@@ -50,8 +50,14 @@ whole text = at (eqb (length text % 2) 1) (λ h. odd text (eqb-true _ 1 h))
     at true h = h refl
     at false h = pairs 0 text
 
-pub decoded : (text bytes : List ℕ) → decode_of text ≡ Ok bytes → bytes_of text ≡ Some bytes
-decoded text bytes h = subst (λ r. Agrees r (bytes_of text)) h (whole text)
+-- into room for as many bytes as there are pairs
+sized : (text : List ℕ) → decode_sized text (length text / 2) ≡ decode_of text
+sized text = grind (arith)
 
-pub refused : (text : List ℕ) (e : FromHexError) → decode_of text ≡ Err e → bytes_of text ≡ None
-refused text e h = subst (λ r. Agrees r (bytes_of text)) h (whole text)
+given : (d : Result (List ℕ) FromHexError) (o : Option (List ℕ)) (r : Result Unit FromHexError) (out : List ℕ) → Agrees d o → MatchResult d (λ bytes. (r ≡ Ok tt) × (out ≡ bytes)) (λ e. r ≡ Err e) → MatchResult r (λ _. o ≡ Some out) (λ _. o ≡ None)
+given (Ok bytes) o r out h m = rw m.0 (h ∙ ap Some (sym m.1))
+given (Err e) o r out h m = rw m h
+
+-- what decoding into n bytes of room answers and leaves there
+pub written : (text : List ℕ) (n : ℕ) (r : Result Unit FromHexError) (out : List ℕ) → n ≡ length text / 2 → MatchResult (decode_sized text n) (λ bytes. (r ≡ Ok tt) × (out ≡ bytes)) (λ e. r ≡ Err e) → MatchResult r (λ _. bytes_of text ≡ Some out) (λ _. bytes_of text ≡ None)
+written text n r out q m = given (decode_sized text n) (bytes_of text) r out (subst (λ k. Agrees (decode_sized text k) (bytes_of text)) (sym q) (subst (λ d. Agrees d (bytes_of text)) (sym (sized text)) (whole text))) m
