@@ -3,7 +3,7 @@ use Rattle.std.specs.Prelude.{true, false, take, is_some, None, slice_set, ◌�
 use Rattle.std.proofs.Common.{ap, ◌∙◌, sym, subst}
 use Rattle.atlas.specs.declared.shelf_atlas.ShelfAtlas.{ShelfAtlas}
 use Rattle.atlas.specs.Slots.{Slots, slot}
-use Rattle.atlas.specs.Shelf.{Shelved, ShelfSound, standing, emptied, Vanished}
+use Rattle.atlas.specs.Shelf.{Shelved, ShelfSound, standing, emptied, shelf_freed, Vanished}
 use Rattle.atlas.specs.ShelfView.{shelved}
 use Rattle.atlas.specs.ShelfLaw.{emptied_sound, freed_some, freed_none}
 use Rattle.atlas.specs.ShelfFirst.{freed_vanished}
@@ -19,6 +19,10 @@ module _ (s : Shelved) (n : ℕ) (ts : List ℕ) (ss : Slots) (side : n ≡ s.si
   pub same_sound : ShelfSound s → ShelfSound (record { side = n; shelves = ts; slots = ss })
   same_sound v = subst ShelfSound (sym same_state) v
 
+-- what freeing leaves
+pub code_vanished : (s : Shelved) (i : ℕ) → ShelfSound s → (t : Shelved) → t ≡ shelf_freed s i → Vanished s t
+code_vanished s i v t q = subst (Vanished s) (sym q) (freed_vanished s i v)
+
 -- freeing: the slot i is emptied, and k shelves are left
 module _ (s : Shelved) (v : ShelfSound s) (i n k : ℕ) (us ts : List ℕ) (ss : Slots) (side : n ≡ s.side) (slots : ss ≡ slice_set s.slots i None) (all : us ≡ s.shelves) (left : k ≡ standing ss 0 us) (shelves : ts ≡ take k s.shelves) where
   emptied_state : record { side = n; shelves = ts; slots = ss } ≡ emptied s i
@@ -27,8 +31,8 @@ module _ (s : Shelved) (v : ShelfSound s) (i n k : ℕ) (us ts : List ℕ) (ss :
   pub code_sound : ShelfSound (record { side = n; shelves = ts; slots = ss })
   code_sound = subst ShelfSound (sym emptied_state) (emptied_sound s v i)
 
-  pub code_vanished : is_some (slot s.slots i) ≡ true → Vanished s (record { side = n; shelves = ts; slots = ss })
-  code_vanished e = subst (Vanished s) (freed_some s i e ∙ sym emptied_state) (freed_vanished s i v)
+  pub live_vanished : is_some (slot s.slots i) ≡ true → Vanished s (record { side = n; shelves = ts; slots = ss })
+  live_vanished e = code_vanished s i v _ (emptied_state ∙ sym (freed_some s i e))
 
 pub kept_vanished : (s : Shelved) (i : ℕ) → ShelfSound s → is_some (slot s.slots i) ≡ false → Vanished s s
-kept_vanished s i v e = subst (Vanished s) (freed_none s i e) (freed_vanished s i v)
+kept_vanished s i v e = code_vanished s i v s (sym (freed_none s i e))
