@@ -21,12 +21,12 @@ cuts_prop n f [] p q = le_prop p q
 cuts_prop n f (c ∷ cs) p q = λ i. (le_prop p.0 q.0 i, cuts_prop n (c.place + c.gone) cs p.1 q.1 i)
 
 -- the recorded lengths of the runs never fall
-cuts_rise : {X : Type 0} (K : Kind X) (rises : (a b : StreamOffsets) → Under a b → K.place a ≤ K.place b) (gs : List Glyph) (e : StreamOffsets) (n : ℕ) (f : StreamOffsets) (rs : List GlyphRun)
-    → Rises e n f rs → Cuts (K.place e) (K.place f) (cuts_of K gs rs)
+cuts_rise : {X : Type 0} (K : Kind X) (m : Meaning) (rises : (a b : StreamOffsets) → Under a b → K.place a ≤ K.place b) (gs : List Glyph) (e : StreamOffsets) (n : ℕ) (f : StreamOffsets) (rs : List GlyphRun)
+    → Rises e n f rs → Cuts (K.place e) (K.place f) (cuts_of K m gs rs)
 unfolding Rises
-cuts_rise K rises gs e n f [] h = rises f e h
-cuts_rise K rises gs e n f (r ∷ rs) h =
-    (rises f r.stream_offsets h.0, rw add-zero (cuts_rise K rises gs e n r.stream_offsets rs h.3))
+cuts_rise K m rises gs e n f [] h = rises f e h
+cuts_rise K m rises gs e n f (r ∷ rs) h =
+    (rises f r.stream_offsets h.0, rw add-zero (cuts_rise K m rises gs e n r.stream_offsets rs h.3))
 
 inside_rise : (e : StreamOffsets) (n : ℕ) (f : StreamOffsets) (rs : List GlyphRun) → Rises e n f rs → Inside n rs
 unfolding Rises
@@ -56,19 +56,19 @@ module _ (s : Scene) (h : Sound s) where
   pub draw_kept : (late : Late) → Owned late 0 s.patches → Cuts (length s.draw_data) 0 (draw_data_cuts late 0 s.patches)
   draw_kept late w = ∥∥₁_elim h.patched (cuts_prop _ 0 (draw_data_cuts late 0 s.patches)) (λ l. draw_data_cuts_fit late _ _ 0 0 s.patches l w)
 
-  cuts_kept : {X : Type 0} (K : Kind X) (rises : (a b : StreamOffsets) → Under a b → K.place a ≤ K.place b) → K.place start ≡ 0 → Cuts (K.place (ends s)) 0 (cuts_of K s.glyphs s.runs)
-  cuts_kept K rises z =
-      ∥∥₁_elim h.recorded (cuts_prop (K.place (ends s)) 0 (cuts_of K s.glyphs s.runs))
-      (λ r. subst (λ f. Cuts (K.place (ends s)) f (cuts_of K s.glyphs s.runs)) z (cuts_rise K rises s.glyphs (ends s) _ start s.runs r))
+  cuts_kept : {X : Type 0} (K : Kind X) (m : Meaning) (rises : (a b : StreamOffsets) → Under a b → K.place a ≤ K.place b) → K.place start ≡ 0 → Cuts (K.place (ends s)) 0 (cuts_of K m s.glyphs s.runs)
+  cuts_kept K m rises z =
+      ∥∥₁_elim h.recorded (cuts_prop (K.place (ends s)) 0 (cuts_of K m s.glyphs s.runs))
+      (λ r. subst (λ f. Cuts (K.place (ends s)) f (cuts_of K m s.glyphs s.runs)) z (cuts_rise K m rises s.glyphs (ends s) _ start s.runs r))
 
-  pub tags_kept : (m : Meaning) → Cuts (length s.path_tags) 0 (cuts_of (tags_kind m) s.glyphs s.runs)
-  tags_kept m = cuts_kept (tags_kind m) (λ a b u. u.path_tags) refl
+  pub tags_kept : (m : Meaning) → Cuts (length s.path_tags) 0 (cuts_of tags_kind m s.glyphs s.runs)
+  tags_kept m = cuts_kept tags_kind m (λ a b u. u.path_tags) refl
 
-  pub data_kept : (m : Meaning) → Cuts (length s.path_data) 0 (cuts_of (data_kind m) s.glyphs s.runs)
-  data_kept m = cuts_kept (data_kind m) (λ a b u. u.path_data) refl
+  pub data_kept : (m : Meaning) → Cuts (length s.path_data) 0 (cuts_of data_kind m s.glyphs s.runs)
+  data_kept m = cuts_kept data_kind m (λ a b u. u.path_data) refl
 
-  pub transforms_kept : (m : Meaning) → Cuts (length s.transforms) 0 (cuts_of (transforms_kind m) s.glyphs s.runs)
-  transforms_kept m = cuts_kept (transforms_kind m) (λ a b u. u.transforms) refl
+  pub transforms_kept : (m : Meaning) → Cuts (length s.transforms) 0 (cuts_of transforms_kind m s.glyphs s.runs)
+  transforms_kept m = cuts_kept transforms_kind m (λ a b u. u.transforms) refl
 
-  pub styles_kept : (m : Meaning) → Cuts (length s.styles) 0 (cuts_of (styles_kind m) s.glyphs s.runs)
-  styles_kept m = cuts_kept (styles_kind m) (λ a b u. u.styles) refl
+  pub styles_kept : (m : Meaning) → Cuts (length s.styles) 0 (cuts_of styles_kind m s.glyphs s.runs)
+  styles_kept m = cuts_kept styles_kind m (λ a b u. u.styles) refl

@@ -36,26 +36,26 @@ pub record Long (m : Meaning) (late : Late) (s : Scene) : Type 0 where
   pub styles : length (style_stream m s) ≡ (sizes_with (inserted_by m s) s).styles
 
 module _ (m : Meaning) (s : Scene) (h : Sound s) where
-  pub tag_count : length (stream_of (tags_kind m) s.path_tags s.glyphs s.runs) ≡ length s.path_tags + (inserted_by m s).path_tags
-  tag_count = stream_counted (tags_kind m) s.path_tags s.glyphs s.runs (tags_kept s h m)
+  pub tag_count : length (stream_of tags_kind m s.path_tags s.glyphs s.runs) ≡ length s.path_tags + (inserted_by m s).path_tags
+  tag_count = stream_counted tags_kind m s.path_tags s.glyphs s.runs (tags_kept s h m)
 
   closed_long : length (closed_tags m s) ≡ length s.path_tags + (inserted_by m s).path_tags + s.open_clips
-  closed_long = omega (arith, length-append (stream_of (tags_kind m) s.path_tags s.glyphs s.runs) (replicate s.open_clips 0x10), tag_count, length-replicate {A = ℕ} s.open_clips 0x10)
+  closed_long = omega (arith, length-append (stream_of tags_kind m s.path_tags s.glyphs s.runs) (replicate s.open_clips 0x10), tag_count, length-replicate {A = ℕ} s.open_clips 0x10)
 
   module _ (late : Late) (w : Owned late 0 s.patches) where
     pub long : Long m late s
     long =
-        let t = stream_counted (data_kind m) s.path_data s.glyphs s.runs (data_kept s h m) in
-        let u = stream_counted (transforms_kind m) s.transforms s.glyphs s.runs (transforms_kept s h m) in
-        let v = stream_counted (styles_kind m) s.styles s.glyphs s.runs (styles_kept s h m) in
+        let t = stream_counted data_kind m s.path_data s.glyphs s.runs (data_kept s h m) in
+        let u = stream_counted transforms_kind m s.transforms s.glyphs s.runs (transforms_kept s h m) in
+        let v = stream_counted styles_kind m s.styles s.glyphs s.runs (styles_kept s h m) in
         let ends = s.draw_tags ++ replicate s.open_clips 0x21 in
         record {
           path_tags = with_padding_long (closed_tags m s) ∙ ap padded closed_long;
-          path_data = length_wide word_bytes 4 (λ _. refl) (stream_of (data_kind m) s.path_data s.glyphs s.runs) ∙ ap (λ n. 4 * n) t;
+          path_data = length_wide word_bytes 4 (λ _. refl) (stream_of data_kind m s.path_data s.glyphs s.runs) ∙ ap (λ n. 4 * n) t;
           draw_tags = omega (arith, length_wide word_bytes 4 (λ _. refl) ends, length-append s.draw_tags (replicate s.open_clips 0x21), length-replicate {A = ℕ} s.open_clips 0x21);
           draw_data = length_wide word_bytes 4 (λ _. refl) (bound_draw_data late s.draw_data s.patches) ∙ ap (λ n. 4 * n) (draw_counted late s.draw_data s.patches (draw_kept s h late w));
-          transforms = length_wide transform_bytes 24 (λ _. refl) (stream_of (transforms_kind m) s.transforms s.glyphs s.runs) ∙ ap (λ n. 24 * n) u;
-          styles = length_wide style_bytes 8 (λ _. refl) (stream_of (styles_kind m) s.styles s.glyphs s.runs) ∙ ap (λ n. 8 * n) v;
+          transforms = length_wide transform_bytes 24 (λ _. refl) (stream_of transforms_kind m s.transforms s.glyphs s.runs) ∙ ap (λ n. 24 * n) u;
+          styles = length_wide style_bytes 8 (λ _. refl) (stream_of styles_kind m s.styles s.glyphs s.runs) ∙ ap (λ n. 8 * n) v;
         }
 
     pub page_long : length (page_of m late s) ≡ page_length m s

@@ -11,7 +11,10 @@ use crate::runs::glyph_runs;
 use byte_writers::Writer;
 use draw::{DrawTag, PathTag};
 use encoding::Encoding;
-use streams::{LateWords, PathData, PathTags, Styles, Transforms, put_draw_data, put_stream};
+use streams::{
+    LateWords, PathDataStream, PathTagStream, StyleStream, TransformStream, put_draw_data,
+    put_entry_stream,
+};
 use supply::GlyphSupply;
 
 // The path tags, a path for each open clip, and the padding.
@@ -21,7 +24,12 @@ fn put_path_tags<G: GlyphSupply>(supply: &G, encoding: &Encoding, writer: &mut W
     ensures { Wrote writer.old (path_tag_stream (G.GlyphSupply.meaning supply.now) (meaning encoding.now)) writer.new }
 {
     let runs = glyph_runs(encoding);
-    put_stream(&PathTags { supply }, writer, encoding.path_tags(), runs);
+    put_entry_stream(
+        &PathTagStream { supply },
+        writer,
+        encoding.path_tags(),
+        runs,
+    );
     let open_clips = encoding.counts().n_open_clips as usize;
     writer.put_repeated(open_clips, PathTag::PATH);
     let closed = writer.at();
@@ -52,20 +60,25 @@ pub(crate) fn put_page<G: GlyphSupply, L: LateWords>(
     let open_clips = encoding.counts().n_open_clips;
     let mut writer = Writer::new(out, 0);
     put_path_tags(supply, encoding, &mut writer);
-    put_stream(
-        &PathData { supply },
+    put_entry_stream(
+        &PathDataStream { supply },
         &mut writer,
         encoding.path_data(),
         runs,
     );
     put_draw_tags(&mut writer, encoding.draw_tags(), open_clips);
     put_draw_data(late, &mut writer, encoding.draw_data(), encoding.patches());
-    put_stream(
-        &Transforms { supply },
+    put_entry_stream(
+        &TransformStream { supply },
         &mut writer,
         encoding.transforms(),
         runs,
     );
-    put_stream(&Styles { supply }, &mut writer, encoding.styles(), runs);
+    put_entry_stream(
+        &StyleStream { supply },
+        &mut writer,
+        encoding.styles(),
+        runs,
+    );
     writer.at()
 }

@@ -1,3 +1,4 @@
 pub mod Left
+pub mod EntryCounted
 pub mod Counted
 pub mod Draw

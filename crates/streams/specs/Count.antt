@@ -15,30 +15,30 @@ run_of m r = cond (session_of m r) 1 0
 abbrev pub glyphs_inserted : Meaning → List Glyph → GlyphRun → Inserted
 glyphs_inserted m gs r = record {
   runs = 1;
-  path_tags = glyphs_count (tags_kind m) gs r;
-  path_data = glyphs_count (data_kind m) gs r;
-  transforms = glyphs_count (transforms_kind m) gs r;
-  styles = glyphs_count (styles_kind m) gs r;
+  path_tags = glyphs_count tags_kind m gs r;
+  path_data = glyphs_count data_kind m gs r;
+  transforms = glyphs_count transforms_kind m gs r;
+  styles = glyphs_count styles_kind m gs r;
 }
 
 -- by one run
 abbrev pub run_inserted : Meaning → List Glyph → GlyphRun → Inserted
 run_inserted m gs r = record {
   runs = run_of m r;
-  path_tags = run_count (tags_kind m) gs r;
-  path_data = run_count (data_kind m) gs r;
-  transforms = run_count (transforms_kind m) gs r;
-  styles = run_count (styles_kind m) gs r;
+  path_tags = run_count tags_kind m gs r;
+  path_data = run_count data_kind m gs r;
+  transforms = run_count transforms_kind m gs r;
+  styles = run_count styles_kind m gs r;
 }
 
 -- by all runs
 abbrev pub all_inserted : Meaning → List Glyph → List GlyphRun → Inserted
 all_inserted m gs rs = record {
   runs = sum_by (run_of m) rs;
-  path_tags = runs_count (tags_kind m) gs rs;
-  path_data = runs_count (data_kind m) gs rs;
-  transforms = runs_count (transforms_kind m) gs rs;
-  styles = runs_count (styles_kind m) gs rs;
+  path_tags = runs_count tags_kind m gs rs;
+  path_data = runs_count data_kind m gs rs;
+  transforms = runs_count transforms_kind m gs rs;
+  styles = runs_count styles_kind m gs rs;
 }
 
 -- at most k runs, and n entries in each stream

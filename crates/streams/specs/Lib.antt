@@ -3,5 +3,7 @@ pub mod Inserted
 pub mod Inside
 pub mod Kind
 pub mod Kinds
+pub mod EntryKind
+pub mod EntryKinds
 pub mod Count
 pub mod Draw

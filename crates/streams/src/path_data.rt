@@ -1,19 +1,19 @@
-ghost use Rattle.streams.specs.Kinds.{data_kind};
+ghost use Rattle.streams.specs.EntryKinds.{data_entries};
 
+use crate::entry_stream::EntryStream;
 use crate::glyphs::{has_session, outline_of};
-use crate::run_stream::RunStream;
 use byte_writers::Writer;
 use records::{Glyph, GlyphRun};
 use supply::GlyphSupply;
 
 #[derive(Drop)]
 #[derive_where(Clone, Copy)]
-pub struct PathData<'a, G> {
+pub struct PathDataStream<'a, G> {
     pub supply: &'a G,
 }
 
-impl<'a, G: GlyphSupply> RunStream<u32> for PathData<'a, G> {
-    ghost kind = { λ s. data_kind (G.GlyphSupply.meaning s.supply.now) };
+impl<'a, G: GlyphSupply> EntryStream<u32> for PathDataStream<'a, G> {
+    ghost kind = { λ s. data_entries (G.GlyphSupply.meaning s.supply.now) };
 
     fn place(&self, run: &GlyphRun) -> usize {
         run.stream_offsets.path_data

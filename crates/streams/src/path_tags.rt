@@ -1,7 +1,7 @@
-ghost use Rattle.streams.specs.Kinds.{tags_kind};
+ghost use Rattle.streams.specs.EntryKinds.{tag_entries};
 
+use crate::entry_stream::EntryStream;
 use crate::glyphs::{has_session, outline_of};
-use crate::run_stream::RunStream;
 use byte_writers::{Entry, Writer};
 use draw::PathTag;
 use records::{Glyph, GlyphRun};
@@ -9,12 +9,12 @@ use supply::GlyphSupply;
 
 #[derive(Drop)]
 #[derive_where(Clone, Copy)]
-pub struct PathTags<'a, G> {
+pub struct PathTagStream<'a, G> {
     pub supply: &'a G,
 }
 
-impl<'a, G: GlyphSupply> RunStream<u8> for PathTags<'a, G> {
-    ghost kind = { λ s. tags_kind (G.GlyphSupply.meaning s.supply.now) };
+impl<'a, G: GlyphSupply> EntryStream<u8> for PathTagStream<'a, G> {
+    ghost kind = { λ s. tag_entries (G.GlyphSupply.meaning s.supply.now) };
 
     fn place(&self, run: &GlyphRun) -> usize {
         run.stream_offsets.path_tags

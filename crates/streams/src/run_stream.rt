@@ -1,33 +1,28 @@
-ghost use Rattle.std.specs.Prelude.{◌≡◌, ◌+◌, ◌≤◌, length};
+ghost use Rattle.std.specs.Prelude.{◌≡◌, ◌+◌, ◌*◌, ◌≤◌, length};
 ghost use Rattle.std.specs.List.{flat_map};
 ghost use Rattle.byte_writers.specs.Wrote.{Wrote};
 ghost use Rattle.streams.specs.Kind.{Kind};
 
-use byte_writers::Writer;
-use records::{Glyph, GlyphRun};
+use byte_writers::{Entry, Writer};
+use records::{Glyph, GlyphRun, StreamOffsets};
+use supply::GlyphSupply;
 
-// A stream of entries X that glyph runs go into. What they put there may depend on the stream's value.
-pub trait RunStream<X> {
-    ghost kind: { Self → Kind X };
+// A stream that glyph runs go into, of any glyph supply: runs go by the sessions of the supply, and entries have the bytes of their type.
+pub trait RunStream {
+    type Item: Entry;
 
-    // The stream's length when the run was encoded.
-    fn place(&self, run: &GlyphRun) -> usize
-        ensures { result ≡ (kind self.now).place run.now.stream_offsets };
+    ghost kind: { Kind Self.Item };
 
-    // Whether the run goes into this stream. Each stream has its own test, so one from another crate need not go by a supply.
-    fn session(&self, run: &GlyphRun) -> bool
-        ensures { result ≡ (kind self.now).session run.now };
+    // The stream's recorded length.
+    fn place(offsets: &StreamOffsets) -> usize
+        ensures { result ≡ kind.place offsets.now };
 
-    fn put_entries(&self, writer: &mut Writer<'_>, entries: &[X])
-        requires { writer.old.at + length (flat_map (kind self.now).bytes entries.now) ≤ length writer.old.out.now }
-        ensures { Wrote writer.old (flat_map (kind self.now).bytes entries.now) writer.new };
-
-    fn put_glyph(&self, writer: &mut Writer<'_>, run: &GlyphRun, glyph: &Glyph)
-        requires { writer.old.at + length (flat_map (kind self.now).bytes ((kind self.now).each run.now glyph.now)) ≤ length writer.old.out.now }
-        ensures { Wrote writer.old (flat_map (kind self.now).bytes ((kind self.now).each run.now glyph.now)) writer.new };
+    fn put_glyph<G: GlyphSupply>(supply: &G, writer: &mut Writer<'_>, run: &GlyphRun, glyph: &Glyph)
+        requires { writer.old.at + Self.Item.wide * length (kind.each (G.GlyphSupply.meaning supply.now) run.now glyph.now) ≤ length writer.old.out.now }
+        ensures { Wrote writer.old (flat_map Self.Item.bytes (kind.each (G.GlyphSupply.meaning supply.now) run.now glyph.now)) writer.new };
 
     // What comes after the last glyph.
-    fn put_close(&self, writer: &mut Writer<'_>, run: &GlyphRun)
-        requires { writer.old.at + length (flat_map (kind self.now).bytes ((kind self.now).close run.now)) ≤ length writer.old.out.now }
-        ensures { Wrote writer.old (flat_map (kind self.now).bytes ((kind self.now).close run.now)) writer.new };
+    fn put_close(writer: &mut Writer<'_>, run: &GlyphRun)
+        requires { writer.old.at + Self.Item.wide * length (kind.close run.now) ≤ length writer.old.out.now }
+        ensures { Wrote writer.old (flat_map Self.Item.bytes (kind.close run.now)) writer.new };
 }

@@ -1,19 +1,19 @@
-ghost use Rattle.streams.specs.Kinds.{styles_kind};
+ghost use Rattle.streams.specs.EntryKinds.{style_entries};
 
+use crate::entry_stream::EntryStream;
 use crate::glyphs::{has_session, outline_of};
-use crate::run_stream::RunStream;
 use byte_writers::Writer;
 use records::{Glyph, GlyphRun, Style};
 use supply::GlyphSupply;
 
 #[derive(Drop)]
 #[derive_where(Clone, Copy)]
-pub struct Styles<'a, G> {
+pub struct StyleStream<'a, G> {
     pub supply: &'a G,
 }
 
-impl<'a, G: GlyphSupply> RunStream<Style> for Styles<'a, G> {
-    ghost kind = { λ s. styles_kind (G.GlyphSupply.meaning s.supply.now) };
+impl<'a, G: GlyphSupply> EntryStream<Style> for StyleStream<'a, G> {
+    ghost kind = { λ s. style_entries (G.GlyphSupply.meaning s.supply.now) };
 
     fn place(&self, run: &GlyphRun) -> usize {
         run.stream_offsets.styles

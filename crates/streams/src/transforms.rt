@@ -1,7 +1,7 @@
-ghost use Rattle.streams.specs.Kinds.{transforms_kind};
+ghost use Rattle.streams.specs.EntryKinds.{transform_entries};
 
+use crate::entry_stream::EntryStream;
 use crate::glyphs::{brush_transform, glyph_transform, has_session};
-use crate::run_stream::RunStream;
 use byte_writers::{Entry, Writer};
 use math::Transform;
 use records::{Glyph, GlyphRun};
@@ -9,12 +9,12 @@ use supply::GlyphSupply;
 
 #[derive(Drop)]
 #[derive_where(Clone, Copy)]
-pub struct Transforms<'a, G> {
+pub struct TransformStream<'a, G> {
     pub supply: &'a G,
 }
 
-impl<'a, G: GlyphSupply> RunStream<Transform> for Transforms<'a, G> {
-    ghost kind = { λ s. transforms_kind (G.GlyphSupply.meaning s.supply.now) };
+impl<'a, G: GlyphSupply> EntryStream<Transform> for TransformStream<'a, G> {
+    ghost kind = { λ s. transform_entries (G.GlyphSupply.meaning s.supply.now) };
 
     fn place(&self, run: &GlyphRun) -> usize {
         run.stream_offsets.transforms

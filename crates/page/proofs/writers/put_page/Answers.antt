@@ -12,8 +12,8 @@ use Rattle.page.proofs.writers.put_page.Goals as goal
 sizes : (m : Meaning) (e : Encoding) (late : Late) → Owned late 0 (meaning e).patches → Long m late (meaning e)
 sizes m e late w = long m (meaning e) (sound e) late w
 
-pub put_stream-requires : goal.put_stream-requires
-put_stream-requires g c =
+pub put_entry_stream-requires : goal.put_entry_stream-requires
+put_entry_stream-requires g c =
     let m = g.G.GlyphSupply.meaning c.args.supply.now in
     let s = meaning c.args.encoding.now in
     let h = sound c.args.encoding.now in
@@ -28,7 +28,7 @@ put_draw_tags-requires g c =
     let z = sizes (g.G.GlyphSupply.meaning c.args.supply.now) c.args.encoding.now (g.L.LateWords.late c.args.late.now) c.requires.owned in
     let room = ap length c.new-writer.ensures.bytes in
     let tags = c.put_path_tags.ensures in
-    let path_data = rw (c.path_data.ensures, c.glyph_runs-runs.ensures.glyphs, c.glyph_runs-runs.ensures.runs) at c.put_stream.ensures in
+    let path_data = rw (c.path_data.ensures, c.glyph_runs-runs.ensures.glyphs, c.glyph_runs-runs.ensures.runs) at c.put_entry_stream.ensures in
     rw (c.draw_tags.ensures, c.counts-open_clips.ensures)
     (omega (arith, c.requires.space, room, c.new-writer.ensures.start, tags.put.size, tags.long, path_data.put.size, path_data.long, z.path_tags, z.path_data))
 
@@ -39,7 +39,7 @@ put_draw_data-requires g c =
     let z = sizes (g.G.GlyphSupply.meaning c.args.supply.now) c.args.encoding.now (g.L.LateWords.late c.args.late.now) c.requires.owned in
     let room = ap length c.new-writer.ensures.bytes in
     let tags = c.put_path_tags.ensures in
-    let path_data = rw (c.path_data.ensures, c.glyph_runs-runs.ensures.glyphs, c.glyph_runs-runs.ensures.runs) at c.put_stream.ensures in
+    let path_data = rw (c.path_data.ensures, c.glyph_runs-runs.ensures.glyphs, c.glyph_runs-runs.ensures.runs) at c.put_entry_stream.ensures in
     let draw_tags = rw (c.draw_tags.ensures, c.counts-open_clips.ensures) at c.put_draw_tags.ensures in
     rw (c.draw_data.ensures, c.patches.ensures)
     (record {
@@ -61,31 +61,85 @@ put_draw_data-requires g c =
       );
     })
 
-pub put_stream-requires-2 : goal.put_stream-requires-2
-put_stream-requires-2 g c =
+pub put_entry_stream-requires-2 : goal.put_entry_stream-requires-2
+put_entry_stream-requires-2 g c =
     let m = g.G.GlyphSupply.meaning c.args.supply.now in
     let s = meaning c.args.encoding.now in
     let h = sound c.args.encoding.now in
     let z = sizes m c.args.encoding.now (g.L.LateWords.late c.args.late.now) c.requires.owned in
     let room = ap length c.new-writer.ensures.bytes in
-    rw (c.transforms.ensures, c.glyph_runs-runs.ensures.glyphs, c.glyph_runs-runs.ensures.runs) (record { cuts = transforms_kept s h m; space = grind arith })
+    let tags = c.put_path_tags.ensures in
+    let path_data = rw (c.path_data.ensures, c.glyph_runs-runs.ensures.glyphs, c.glyph_runs-runs.ensures.runs) at c.put_entry_stream.ensures in
+    let draw_tags = rw (c.draw_tags.ensures, c.counts-open_clips.ensures) at c.put_draw_tags.ensures in
+    let draw_data = rw (c.draw_data.ensures, c.patches.ensures) at c.put_draw_data.ensures in
+    rw (c.transforms.ensures, c.glyph_runs-runs.ensures.glyphs, c.glyph_runs-runs.ensures.runs)
+    (record {
+      cuts = transforms_kept s h m;
+      space = omega (
+        arith,
+        c.requires.space,
+        room,
+        c.new-writer.ensures.start,
+        tags.put.size,
+        tags.long,
+        path_data.put.size,
+        path_data.long,
+        draw_tags.put.size,
+        draw_tags.long,
+        draw_data.put.size,
+        draw_data.long,
+        z.path_tags,
+        z.path_data,
+        z.draw_tags,
+        z.draw_data,
+      );
+    })
 
-pub put_stream-requires-3 : goal.put_stream-requires-3
-put_stream-requires-3 g c =
+pub put_entry_stream-requires-3 : goal.put_entry_stream-requires-3
+put_entry_stream-requires-3 g c =
     let m = g.G.GlyphSupply.meaning c.args.supply.now in
     let s = meaning c.args.encoding.now in
     let h = sound c.args.encoding.now in
     let z = sizes m c.args.encoding.now (g.L.LateWords.late c.args.late.now) c.requires.owned in
     let room = ap length c.new-writer.ensures.bytes in
-    rw (c.styles.ensures, c.glyph_runs-runs.ensures.glyphs, c.glyph_runs-runs.ensures.runs) (record { cuts = styles_kept s h m; space = grind arith })
+    let tags = c.put_path_tags.ensures in
+    let path_data = rw (c.path_data.ensures, c.glyph_runs-runs.ensures.glyphs, c.glyph_runs-runs.ensures.runs) at c.put_entry_stream.ensures in
+    let draw_tags = rw (c.draw_tags.ensures, c.counts-open_clips.ensures) at c.put_draw_tags.ensures in
+    let draw_data = rw (c.draw_data.ensures, c.patches.ensures) at c.put_draw_data.ensures in
+    let transforms = rw (c.transforms.ensures, c.glyph_runs-runs.ensures.glyphs, c.glyph_runs-runs.ensures.runs) at c.put_entry_stream-2.ensures in
+    rw (c.styles.ensures, c.glyph_runs-runs.ensures.glyphs, c.glyph_runs-runs.ensures.runs)
+    (record {
+      cuts = styles_kept s h m;
+      space = omega (
+        arith,
+        c.requires.space,
+        room,
+        c.new-writer.ensures.start,
+        tags.put.size,
+        tags.long,
+        path_data.put.size,
+        path_data.long,
+        draw_tags.put.size,
+        draw_tags.long,
+        draw_data.put.size,
+        draw_data.long,
+        transforms.put.size,
+        transforms.long,
+        z.path_tags,
+        z.path_data,
+        z.draw_tags,
+        z.draw_data,
+        z.transforms,
+      );
+    })
 
 pub returns : goal.returns
 returns g c =
-    let path_data = rw (c.path_data.ensures, c.glyph_runs-runs.ensures.glyphs, c.glyph_runs-runs.ensures.runs) at c.put_stream.ensures in
+    let path_data = rw (c.path_data.ensures, c.glyph_runs-runs.ensures.glyphs, c.glyph_runs-runs.ensures.runs) at c.put_entry_stream.ensures in
     let draw_tags = rw (c.draw_tags.ensures, c.counts-open_clips.ensures) at c.put_draw_tags.ensures in
     let draw_data = rw (c.draw_data.ensures, c.patches.ensures) at c.put_draw_data.ensures in
-    let transforms = rw (c.transforms.ensures, c.glyph_runs-runs.ensures.glyphs, c.glyph_runs-runs.ensures.runs) at c.put_stream-2.ensures in
-    let styles = rw (c.styles.ensures, c.glyph_runs-runs.ensures.glyphs, c.glyph_runs-runs.ensures.runs) at c.put_stream-3.ensures in
+    let transforms = rw (c.transforms.ensures, c.glyph_runs-runs.ensures.glyphs, c.glyph_runs-runs.ensures.runs) at c.put_entry_stream-2.ensures in
+    let styles = rw (c.styles.ensures, c.glyph_runs-runs.ensures.glyphs, c.glyph_runs-runs.ensures.runs) at c.put_entry_stream-3.ensures in
     let whole = wrote_then (omega arith) (wrote_then (omega arith) (wrote_then (omega arith) (wrote_then (omega arith)
     (wrote_then (omega arith) c.put_path_tags.ensures path_data) draw_tags) draw_data) transforms) styles in
     let from_start = rw (c.new-writer.ensures.start, c.new-writer.ensures.bytes) at whole.put in

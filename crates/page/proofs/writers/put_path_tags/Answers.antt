@@ -12,8 +12,8 @@ use Rattle.page.proofs.Kept.{tags_kept}
 use Rattle.page.proofs.Lengths.{le_padded, tag_count}
 use Rattle.page.proofs.writers.put_path_tags.Goals as goal
 
-pub put_stream-requires-clause-cuts : goal.put_stream-requires-clause-cuts
-put_stream-requires-clause-cuts g c =
+pub put_entry_stream-requires-clause-cuts : goal.put_entry_stream-requires-clause-cuts
+put_entry_stream-requires-clause-cuts g c =
     rw (c.path_tags.ensures, c.glyph_runs-runs.ensures.glyphs, c.glyph_runs-runs.ensures.runs)
     (tags_kept (meaning c.args.encoding.now) (sound c.args.encoding.now) (g.G.GlyphSupply.meaning c.args.supply.now))
 
@@ -21,17 +21,17 @@ pub put_repeated-requires : goal.put_repeated-requires
 put_repeated-requires g c =
     let m = g.G.GlyphSupply.meaning c.args.supply.now in
     let s = meaning c.args.encoding.now in
-    let p = rw (c.path_tags.ensures, c.glyph_runs-runs.ensures.glyphs, c.glyph_runs-runs.ensures.runs) at c.put_stream.ensures in
+    let p = rw (c.path_tags.ensures, c.glyph_runs-runs.ensures.glyphs, c.glyph_runs-runs.ensures.runs) at c.put_entry_stream.ensures in
     let o = ap (λ v. v.n_open_clips) c.counts-open_clips.ensures in
-    let xs = stream_of (tags_kind m) s.path_tags s.glyphs s.runs in
+    let xs = stream_of tags_kind m s.path_tags s.glyphs s.runs in
     omega (arith, o, c.requires.start, c.requires.space, p.long, p.put.size, ap length (flat_map_byte xs), tag_count m s (sound c.args.encoding.now), le_padded (length xs + s.open_clips))
 
 pub put_repeated-requires-2 : goal.put_repeated-requires-2
 put_repeated-requires-2 g c =
     let m = g.G.GlyphSupply.meaning c.args.supply.now in
     let s = meaning c.args.encoding.now in
-    let p = rw (c.path_tags.ensures, c.glyph_runs-runs.ensures.glyphs, c.glyph_runs-runs.ensures.runs) at c.put_stream.ensures in
-    let xs = stream_of (tags_kind m) s.path_tags s.glyphs s.runs in
+    let p = rw (c.path_tags.ensures, c.glyph_runs-runs.ensures.glyphs, c.glyph_runs-runs.ensures.runs) at c.put_entry_stream.ensures in
+    let xs = stream_of tags_kind m s.path_tags s.glyphs s.runs in
     let q = rw c.counts-open_clips.ensures at c.put_repeated.ensures in
     omega (
       arith,
@@ -50,9 +50,9 @@ pub returns : goal.returns
 returns g c =
     let m = g.G.GlyphSupply.meaning c.args.supply.now in
     let s = meaning c.args.encoding.now in
-    let p = rw (c.path_tags.ensures, c.glyph_runs-runs.ensures.glyphs, c.glyph_runs-runs.ensures.runs) at c.put_stream.ensures in
+    let p = rw (c.path_tags.ensures, c.glyph_runs-runs.ensures.glyphs, c.glyph_runs-runs.ensures.runs) at c.put_entry_stream.ensures in
     let r = rw c.counts-open_clips.ensures at c.put_repeated.ensures in
-    let xs = stream_of (tags_kind m) s.path_tags s.glyphs s.runs in
+    let xs = stream_of tags_kind m s.path_tags s.glyphs s.runs in
     let ys : List ℕ = replicate s.open_clips 0x10 in
     let zs : List ℕ = replicate (c.next_multiple_of.result - c.at-closed.result) 0 in
     let l = length (closed_tags m s) in

@@ -5,7 +5,7 @@ use Rattle.std.proofs.lemmas.Grind.{flat_map-append}
 use lib.Ieee.{nan}
 use Rattle.records.specs.declared.glyph.Glyph.{Glyph}
 use Rattle.byte_writers.proofs.Puts.{length_wide, wide_le, room, flat_map_step, wrote_as, wrote_then}
-use Rattle.streams.proofs.Counted.{put_by}
+use Rattle.streams.proofs.EntryCounted.{entry_put_by}
 use Rattle.streams.proofs.runs.put_run.Goals as goal
 
 -- what is read past a list's end
@@ -14,12 +14,12 @@ no_glyph = record { id = 0; x = nan; y = nan }
 
 pub put_glyph-requires : goal.put_glyph-requires
 put_glyph-requires g c =
-    let K = g.S.RunStream.kind c.args.stream.now in
+    let K = g.S.EntryStream.kind c.args.stream.now in
     let r = c.args.run.now in
     let put = flat_map (K.each r) in
     let gs = c.args.glyphs.now in
     let i = c.loop-glyph.glyph-index in
-    let n = ap length (put_by K gs r c.if-not-session.ensures) ∙ length-append (put gs) (K.close r) in
+    let n = ap length (entry_put_by K gs r c.if-not-session.ensures) ∙ length-append (put gs) (K.close r) in
     omega (
       arith,
       c.requires,
@@ -34,7 +34,7 @@ put_glyph-requires g c =
 
 pub loop-glyph-preserved : goal.loop-glyph-preserved
 loop-glyph-preserved g c =
-    let K = g.S.RunStream.kind c.args.stream.now in
+    let K = g.S.EntryStream.kind c.args.stream.now in
     let each = K.each c.args.run.now in
     let gs = c.args.glyphs.now in
     let i = c.loop-glyph.glyph-index in
@@ -43,11 +43,11 @@ loop-glyph-preserved g c =
 
 pub put_close-requires : goal.put_close-requires
 put_close-requires g c =
-    let K = g.S.RunStream.kind c.args.stream.now in
+    let K = g.S.EntryStream.kind c.args.stream.now in
     let r = c.args.run.now in
     let put = flat_map (K.each r) in
     let gs = c.args.glyphs.now in
-    let n = ap length (put_by K gs r c.if-not-session.ensures) ∙ length-append (put gs) (K.close r) in
+    let n = ap length (entry_put_by K gs r c.if-not-session.ensures) ∙ length-append (put gs) (K.close r) in
     let t = ap (λ xs. K.wide * length (put xs)) (take_all c.loop-glyph.glyph-index gs c.loop-glyph-test.false) in
     omega (
       arith,
@@ -62,12 +62,12 @@ put_close-requires g c =
 
 pub returns : goal.returns
 returns g c =
-    let K = g.S.RunStream.kind c.args.stream.now in
+    let K = g.S.EntryStream.kind c.args.stream.now in
     let r = c.args.run.now in
     let f = K.bytes in
     let put = flat_map (K.each r) in
     let gs = c.args.glyphs.now in
-    let w = put_by K gs r c.if-not-session.ensures in
+    let w = entry_put_by K gs r c.if-not-session.ensures in
     let t = ap put (take_all c.loop-glyph.glyph-index gs c.loop-glyph-test.false) in
     wrote_as (ap (λ v. flat_map f v ++ flat_map f (K.close r)) t ∙ sym (flat_map-append f (put gs) (K.close r)) ∙ ap (flat_map f) (sym w))
     (wrote_then (omega (arith, c.requires)) c.loop-glyph.invariant c.put_close.ensures)
