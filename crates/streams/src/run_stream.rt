@@ -8,6 +8,7 @@ use records::{Glyph, GlyphRun, StreamOffsets};
 use supply::GlyphSupply;
 
 // A stream that glyph runs go into, of any glyph supply: runs go by the sessions of the supply, and entries have the bytes of their type.
+// It is a type alone, where an `EntryStream` is a value, with a kind, a session test and bytes of its own.
 pub trait RunStream {
     type Item: Entry;
 
