@@ -1,4 +1,4 @@
--- A stream that runs go into, by its meaning: its entries, their count and their bytes.
+-- A stream with a session test and bytes of its own, by its meaning: its entries, their count and their bytes.
 use Rattle.std.specs.Prelude.{◌≡◌, ℕ, ◌+◌, Bool, cond, List, [], ◌++◌, map, length, sum_by}
 use Rattle.std.specs.List.{flat_map}
 use Rattle.records.specs.declared.glyph.Glyph.{Glyph}

@@ -13,6 +13,7 @@ use math::Transform;
 use records::{Glyph, GlyphRun, StreamOffsets, Style};
 use supply::GlyphSupply;
 
+// The path tags, of any glyph supply.
 #[derive(Clone, Copy, Drop)]
 pub struct PathTags;
 
@@ -41,6 +42,7 @@ impl RunStream for PathTags {
     }
 }
 
+// The path data, of any glyph supply.
 #[derive(Clone, Copy, Drop)]
 pub struct PathData;
 
@@ -67,6 +69,7 @@ impl RunStream for PathData {
     }
 }
 
+// The transforms, of any glyph supply.
 #[derive(Clone, Copy, Drop)]
 pub struct Transforms;
 
@@ -93,6 +96,7 @@ impl RunStream for Transforms {
     }
 }
 
+// The styles, of any glyph supply.
 #[derive(Clone, Copy, Drop)]
 pub struct Styles;
 

@@ -6,6 +6,7 @@ use byte_writers::Writer;
 use records::{Glyph, GlyphRun};
 use supply::GlyphSupply;
 
+// The path data, at one glyph supply.
 #[derive(Drop)]
 #[derive_where(Clone, Copy)]
 pub struct PathDataStream<'a, G> {

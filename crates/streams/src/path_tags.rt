@@ -7,6 +7,7 @@ use draw::PathTag;
 use records::{Glyph, GlyphRun};
 use supply::GlyphSupply;
 
+// The path tags, at one glyph supply.
 #[derive(Drop)]
 #[derive_where(Clone, Copy)]
 pub struct PathTagStream<'a, G> {

@@ -6,6 +6,7 @@ use byte_writers::Writer;
 use records::{Glyph, GlyphRun, Style};
 use supply::GlyphSupply;
 
+// The styles, at one glyph supply.
 #[derive(Drop)]
 #[derive_where(Clone, Copy)]
 pub struct StyleStream<'a, G> {

@@ -14,7 +14,7 @@ use supply::GlyphSupply;
 pub(crate) struct Supplied<'a, S: RunStream, G> {
     pub(crate) stream: PhantomData<S>,
     pub(crate) supply: &'a G,
-    // Each entry's bytes are as many.
+    // All entries have as many bytes.
     pub(crate) ghost wides: { (x : S.Item) → length (S.Item.bytes x) ≡ S.Item.wide },
 }
 

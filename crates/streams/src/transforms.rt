@@ -7,6 +7,7 @@ use math::Transform;
 use records::{Glyph, GlyphRun};
 use supply::GlyphSupply;
 
+// The transforms, at one glyph supply.
 #[derive(Drop)]
 #[derive_where(Clone, Copy)]
 pub struct TransformStream<'a, G> {

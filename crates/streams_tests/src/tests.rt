@@ -91,7 +91,7 @@ fn run(font: u32) -> GlyphRun
     }
 }
 
-// Glyphs 1 and 2, once in font 1 and once in font 0.
+// Glyphs 1 and 2, once in font 1, which has no session, and once in font 0. Glyph 2 has no outline.
 #[derive(Drop)]
 struct Sheet {
     glyphs: [Glyph; 2],
